@@ -1,0 +1,174 @@
+//! Arrays (OPC 10000-6 5.2.5): a count in four bytes and the items, or -1 for none.
+#![tactic(auto, unfolding(crate::specs::Array::array))]
+
+ghost use Rattle.std.specs.Prelude.{◌≡◌, ◌≤◌, ◌<◌, ◌++◌, ◌↔◌, length, option_copied, IfOk, IfErr, IsErrOf, OnOk, OnErr};
+ghost use Rattle.std.specs.List.{flat_map, AllByRecursion};
+ghost use Rattle.ua_value.specs.Format.{input_limit, AppendsPart, Gives};
+ghost use Rattle.ua_value.specs.Text.{longest};
+ghost use Rattle.ua_value.specs.Array.{array, items_at};
+ghost use Rattle.ua_value.specs.ArrayLaws.{lawful_array};
+
+use crate::bytes::LONGEST;
+use crate::fault::{NoMemory, ReadFault, ValueFault};
+use crate::number::front_u32;
+use crate::wire::{Sink, Wire};
+use std::alloc::Global;
+use std::marker::Model;
+
+/// A list of at most 2147483647 items, whose spellings have at most 1152921504606846976 bytes together, or none. No list and the empty list are
+/// different values.
+#[derive(Debug, Drop)]
+pub struct Array<T: Wire> {
+    items: Option<Vec<T>>,
+}
+
+impl<T: Wire> Model for Array<T> {
+    ghost use Rattle.std.specs.Prelude.{◌≤◌, ℕ, List, Option, option_map, length, IfSome};
+    ghost use Rattle.std.specs.List.{flat_map};
+    ghost use Rattle.ua_value.specs.Format.{input_limit};
+    ghost use Rattle.ua_value.specs.Text.{longest};
+
+    ghost Value = { Option (List T) };
+
+    ghost view = { λ a. option_map (λ v. v.items) a.items };
+
+    ghost invariant = { λ a. IfSome a.items (λ v. (length v.items ≤ longest) × (length (flat_map T.format.canon v.items) ≤ input_limit)) };
+}
+
+impl<T: Wire> Array<T> {
+    /// The array that is none.
+    pub fn null() -> Array<T>
+        ensures { result ≡ None }
+    {
+        Array { items: None }
+    }
+
+    /// The items, if there is a list.
+    pub fn get(&self) -> Option<&[T]>
+        ensures { option_copied result ≡ self.now }
+    {
+        match &self.items {
+            None => None,
+            Some(items) => Some(items.as_slice()),
+        }
+    }
+
+    /// The list of the items, which takes no memory. `TooLong` comes just where they are more than 2147483647, and no other fault comes; the items are
+    /// then dropped.
+    pub fn new(items: Vec<T>) -> Result<Array<T>, ValueFault>
+        requires { length (flat_map T.format.canon items.items) ≤ input_limit }
+        ensures ok { IfOk result (λ v. v ≡ Some items.items) }
+        ensures too_long { IsErrOf result ValueFault.TooLong ↔ (longest < length items.items) }
+        ensures fault { IfErr result (λ e. e ≡ ValueFault.TooLong) }
+    {
+        if items.len() > LONGEST as usize {
+            return Err(ValueFault::TooLong);
+        }
+        Ok(Array { items: Some(items) })
+    }
+}
+
+/// The lengths of the items' spellings, added up.
+fn len_of_items<T: Wire>(items: &[T]) -> u64
+    requires { length (flat_map T.format.canon items.now) ≤ input_limit }
+    ensures length { result ≡ length (flat_map T.format.canon items.now) }
+    ensures values { AllByRecursion T.format.IsValue items.now }
+{
+    let mut total = 0;
+    for item in items {
+        total += item.len();
+    }
+    total
+}
+
+/// Puts the items' spellings, one after another.
+fn emit_items<T: Wire, S: Sink>(items: &[T], out: &mut S) -> Result<(), NoMemory>
+    ensures ok { OnOk result (S.contents out.new ≡ S.contents out.old ++ flat_map T.format.canon items.now) }
+    ensures err { OnErr result (AppendsPart (S.contents out.old) (S.contents out.new) (flat_map T.format.canon items.now)) }
+{
+    for item in items {
+        item.emit(out)?;
+    }
+    Ok(())
+}
+
+fn copy_items<T: Wire>(alloc: Global, items: &[T]) -> Result<Vec<T>, NoMemory>
+    ensures { IfOk result (λ v. v.items ≡ items.now) }
+{
+    let mut copies = Vec::new(alloc);
+    for item in items {
+        copies.push(item.copy()?)?;
+    }
+    Ok(copies)
+}
+
+/// As many items as the count says, one after another.
+fn read_items<T: Wire>(
+    alloc: Global,
+    count: u32,
+    input: &[u8],
+) -> Result<(Vec<T>, &[u8]), ReadFault>
+    requires { length input.now ≤ input_limit }
+    ensures gives { Gives (λ x. (x.0.items, x.1.now)) result (items_at T.format.grammar count input.now) }
+    ensures shorter { IfOk result (λ x. length x.1.now ≤ length input.now) }
+{
+    let mut items = Vec::new(alloc);
+    let mut rest = input;
+    for _ in 0..count {
+        let (item, after) = T::read_front(alloc, rest)?;
+        items.push(item)?;
+        rest = after;
+    }
+    Ok((items, rest))
+}
+
+impl<T: Wire> Wire for Array<T> {
+    ghost format = { array T.format };
+
+    ghost most = { 1152921504606846980 };
+
+    fn len(&self) -> u64 {
+        match &self.items {
+            None => 4,
+            Some(items) => 4 + len_of_items(items),
+        }
+    }
+
+    fn emit<S: Sink>(&self, out: &mut S) -> Result<(), NoMemory> {
+        match &self.items {
+            None => out.put(&[255, 255, 255, 255]),
+            Some(items) => {
+                out.put(&(items.len() as u32).to_le_bytes())?;
+                emit_items(items, out)
+            }
+        }
+    }
+
+    fn copy(&self) -> Result<Array<T>, NoMemory> {
+        match &self.items {
+            None => Ok(Array::null()),
+            Some(items) => Ok(Array {
+                items: Some(copy_items(*items.allocator(), items)?),
+            }),
+        }
+    }
+
+    fn read_front(alloc: Global, input: &[u8]) -> Result<(Array<T>, &[u8]), ReadFault> {
+        let Some((count, rest)) = front_u32(input) else {
+            return Err(ReadFault::Refused);
+        };
+        if count == u32::MAX {
+            return Ok((Array::null(), rest));
+        }
+        if count > LONGEST {
+            return Err(ReadFault::Refused);
+        }
+        if rest.len() < count as usize {
+            return Err(ReadFault::Refused);
+        }
+        let (items, rest) = read_items(alloc, count, rest)?;
+        Ok((Array { items: Some(items) }, rest))
+    }
+
+    ghost laws = { lawful_array T.format T.laws };
+}

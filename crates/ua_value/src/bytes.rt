@@ -1,0 +1,130 @@
+//! Byte strings (OPC 10000-6 5.2.2.7): a length in four bytes and the bytes, or -1 for none.
+#![tactic(auto, unfolding(crate::specs::Text::bytes_of))]
+
+ghost use Rattle.std.specs.Prelude.{◌≡◌, ◌≤◌, ◌<◌, ◌↔◌, length, Some, None, option_map, option_copied, IfSome, IfOk, IsErrOf};
+ghost use Rattle.ua_value.specs.Text.{byte_string, longest};
+ghost use Rattle.ua_value.specs.TextLaws.{lawful_byte_string};
+
+use crate::fault::{NoMemory, ReadFault, ValueFault};
+use crate::number::front_u32;
+use crate::wire::{Sink, Wire, bytes_known};
+use std::alloc::Global;
+use std::marker::Model;
+
+/// The greatest length of a text, a byte string or an array.
+pub(crate) const LONGEST: u32 = 2147483647;
+
+/// The ByteString at the front, and what follows it.
+pub(crate) fn bytes_front(input: &[u8]) -> Option<(Option<&[u8]>, &[u8])>
+    ensures front { option_map (λ p. (option_copied p.0, p.1.now)) result ≡ byte_string.grammar.front input.now }
+    ensures shorter { IfSome result (λ p. length p.1.now ≤ length input.now) }
+{
+    let (len, rest) = front_u32(input)?;
+    if len == u32::MAX {
+        return Some((None, rest));
+    }
+    if len > LONGEST || rest.len() < len as usize {
+        return None;
+    }
+    let (bytes, rest) = rest.split_at(len as usize);
+    Some((Some(bytes), rest))
+}
+
+/// At most 2147483647 bytes, or none. No bytes at all and none are different values.
+#[derive(Debug, Drop)]
+pub struct UaBytes {
+    bytes: Option<Vec<u8>>,
+}
+
+impl Model for UaBytes {
+    ghost use Rattle.std.specs.Prelude.{◌≤◌, ℕ, List, Option, option_map, length, IfSome};
+    ghost use Rattle.ua_value.specs.Text.{longest};
+
+    ghost Value = { Option (List ℕ) };
+
+    ghost view = { λ s. option_map (λ v. v.items) s.bytes };
+
+    ghost invariant = { λ s. IfSome s.bytes (λ v. length v.items ≤ longest) };
+}
+
+impl UaBytes {
+    /// The byte string that is none.
+    pub fn null() -> UaBytes
+        ensures { result ≡ None }
+    {
+        UaBytes { bytes: None }
+    }
+
+    /// A copy of the bytes. `TooLong` comes just where they are more than 2147483647.
+    pub fn new(alloc: Global, bytes: &[u8]) -> Result<UaBytes, ValueFault>
+        ensures ok { IfOk result (λ v. v ≡ Some bytes.now) }
+        ensures too_long { IsErrOf result ValueFault.TooLong ↔ (longest < length bytes.now) }
+    {
+        if bytes.len() > LONGEST as usize {
+            return Err(ValueFault::TooLong);
+        }
+        Ok(UaBytes {
+            bytes: Some(bytes.to_vec(alloc)?),
+        })
+    }
+
+    /// The bytes, if there are any or it is empty.
+    pub fn get(&self) -> Option<&[u8]>
+        ensures { option_copied result ≡ self.now }
+    {
+        match &self.bytes {
+            None => None,
+            Some(bytes) => Some(bytes.as_slice()),
+        }
+    }
+}
+
+impl Wire for UaBytes {
+    ghost format = { byte_string };
+
+    ghost most = { 2147483651 };
+
+    fn len(&self) -> u64 {
+        match &self.bytes {
+            None => 4,
+            Some(bytes) => {
+                bytes_known(bytes.as_slice());
+                4 + bytes.len() as u64
+            }
+        }
+    }
+
+    fn emit<S: Sink>(&self, out: &mut S) -> Result<(), NoMemory> {
+        match &self.bytes {
+            None => out.put(&[255, 255, 255, 255]),
+            Some(bytes) => {
+                out.put(&(bytes.len() as u32).to_le_bytes())?;
+                out.put(bytes.as_slice())
+            }
+        }
+    }
+
+    fn copy(&self) -> Result<UaBytes, NoMemory> {
+        match &self.bytes {
+            None => Ok(UaBytes::null()),
+            Some(bytes) => Ok(UaBytes {
+                bytes: Some(bytes.clone()?),
+            }),
+        }
+    }
+
+    fn read_front(alloc: Global, input: &[u8]) -> Result<(UaBytes, &[u8]), ReadFault> {
+        match bytes_front(input) {
+            None => Err(ReadFault::Refused),
+            Some((None, rest)) => Ok((UaBytes::null(), rest)),
+            Some((Some(bytes), rest)) => Ok((
+                UaBytes {
+                    bytes: Some(bytes.to_vec(alloc)?),
+                },
+                rest,
+            )),
+        }
+    }
+
+    ghost laws = { lawful_byte_string };
+}

@@ -1,0 +1,119 @@
+//! Several values, one after another.
+
+ghost use Rattle.std.specs.Prelude.{◌≡◌, ◌≤◌, ◌++◌, List, ℕ, length, OnOk, OnErr, IfOk};
+ghost use Rattle.ua_value.specs.Format.{AppendsPart, Format, IsLawful, Gives, input_limit};
+ghost use Rattle.ua_value.specs.Sequence.{pair, part};
+ghost use Rattle.ua_value.specs.SequenceLaws.{lawful_pair};
+ghost use Rattle.ua_value.specs.Whole.{only};
+
+use crate::fault::{NoMemory, ReadFault};
+use crate::wire::{Sink, Wire};
+use std::alloc::Global;
+
+/// Fields that are read one after another: `(A, (B, C))`.
+pub trait Fields: Sized + Drop {
+    ghost format: { Format Self };
+
+    /// The fields that the input begins with, and what follows them. `Refused` where no beginning of the input spells them.
+    fn read_fields(alloc: Global, input: &[u8]) -> Result<(Self, &[u8]), ReadFault>
+        requires { length input.now ≤ input_limit }
+        ensures gives { Gives (λ x. (x.0, x.1.now)) result (format.grammar.front input.now) }
+        ensures shorter { IfOk result (λ x. length x.1.now ≤ length input.now) };
+
+    ghost laws: { IsLawful format };
+}
+
+impl<T: Wire> Fields for T {
+    ghost format = { T.format };
+
+    fn read_fields(alloc: Global, input: &[u8]) -> Result<(T, &[u8]), ReadFault> {
+        T::read_front(alloc, input)
+    }
+
+    ghost laws = { T.laws };
+}
+
+impl<T: Wire, F: Fields> Fields for (T, F) {
+    ghost format = { pair T.format F.format };
+
+    fn read_fields(alloc: Global, input: &[u8]) -> Result<((T, F), &[u8]), ReadFault> {
+        let (first, rest) = T::read_front(alloc, input)?;
+        let (others, rest) = F::read_fields(alloc, rest)?;
+        Ok(((first, others), rest))
+    }
+
+    ghost laws = { lawful_pair T.format F.format T.laws F.laws };
+}
+
+/// A part that is there where it is flagged, and else is the absent value without a byte read.
+pub fn read_part<T: Wire>(
+    alloc: Global,
+    flagged: bool,
+    absent: T,
+    input: &[u8],
+) -> Result<(T, &[u8]), ReadFault>
+    requires { length input.now ≤ input_limit }
+    ensures gives { Gives (λ x. (x.0, x.1.now)) result ((part flagged absent T.format.grammar).front input.now) }
+    ensures shorter { IfOk result (λ x. length x.1.now ≤ length input.now) }
+{
+    if flagged {
+        T::read_front(alloc, input)
+    } else {
+        Ok((absent, input))
+    }
+}
+
+/// Fields that are put one after another: `(&a, (&b, &c))`.
+pub trait Parts {
+    // the bytes that are put
+    ghost spelling: { Self → List ℕ };
+
+    /// Puts the fields. Where memory runs out a beginning of their bytes was put.
+    fn emit_parts<S: Sink>(&self, out: &mut S) -> Result<(), NoMemory>
+        ensures ok { OnOk result (S.contents out.new ≡ S.contents out.old ++ spelling self.now) }
+        ensures err { OnErr result (AppendsPart (S.contents out.old) (S.contents out.new) (spelling self.now)) };
+}
+
+impl<'a, T: Wire> Parts for &'a T {
+    ghost spelling = { λ p. T.format.canon p.now };
+
+    fn emit_parts<S: Sink>(&self, out: &mut S) -> Result<(), NoMemory> {
+        let value: &T = self;
+        value.emit(out)
+    }
+}
+
+impl<'a, T: Wire, P: Parts> Parts for (&'a T, P) {
+    ghost spelling = { λ p. T.format.canon p.0.now ++ P.spelling p.1 };
+
+    fn emit_parts<S: Sink>(&self, out: &mut S) -> Result<(), NoMemory> {
+        self.0.emit(out)?;
+        self.1.emit_parts(out)
+    }
+}
+
+/// The value that the whole bytes spell. `Refused` where they spell none, or where bytes are left over.
+pub fn read_whole<T: Fields>(alloc: Global, input: &[u8]) -> Result<T, ReadFault>
+    requires { length input.now ≤ input_limit }
+    ensures { Gives (λ v. v) result (only T.format.grammar input.now) }
+{
+    let (value, rest) = T::read_fields(alloc, input)?;
+    if !rest.is_empty() {
+        return Err(ReadFault::Refused);
+    }
+    Ok(value)
+}
+
+/// Bytes that are put as they are.
+#[derive(Clone, Copy)]
+pub struct Raw<'a> {
+    pub bytes: &'a [u8],
+}
+
+impl<'a> Parts for Raw<'a> {
+    ghost spelling = { λ p. p.bytes.now };
+
+    fn emit_parts<S: Sink>(&self, out: &mut S) -> Result<(), NoMemory> {
+        out.put(self.bytes)
+    }
+}

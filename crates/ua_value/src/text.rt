@@ -1,0 +1,150 @@
+//! Texts (OPC 10000-6 5.2.2.4): a length in four bytes and UTF-8, or -1 for none.
+#![tactic(auto, unfolding(crate::specs::Text::bytes_of))]
+
+ghost use Rattle.std.specs.Prelude.{◌≡◌, ◌≤◌, ◌<◌, ◌↔◌, length, if◌then◌else◌, Some, None, option_map, option_copied, IfSome, IfOk, IsErrOf};
+ghost use Rattle.std.specs.Str.{is_utf8};
+ghost use Rattle.ua_value.specs.Format.{Peeks};
+ghost use Rattle.ua_value.specs.Text.{string, longest};
+ghost use Rattle.ua_value.specs.TextLaws.{lawful_string};
+
+use crate::bytes::LONGEST;
+use crate::fault::{NoMemory, ReadFault, ValueFault};
+use crate::number::front_u32;
+use crate::wire::{Sink, Wire};
+use std::alloc::Global;
+use std::marker::Model;
+
+/// A text of at most 2147483647 bytes, or none. No text and the empty text are different values.
+#[derive(Debug, Drop)]
+pub struct UaString {
+    text: Option<String>,
+}
+
+impl Model for UaString {
+    ghost use Rattle.std.specs.Prelude.{◌≤◌, ℕ, List, Option, option_map, string_bytes, string_len, IfSome};
+    ghost use Rattle.ua_value.specs.Text.{longest};
+
+    ghost Value = { Option (List ℕ) };
+
+    ghost view = { λ s. option_map string_bytes s.text };
+
+    ghost invariant = { λ s. IfSome s.text (λ t. string_len t ≤ longest) };
+}
+
+/// The text that the bytes are, if they are UTF-8.
+#[tactic(auto, using(crate::proofs::Utf8::utf8_yes, crate::proofs::Utf8::utf8_no))]
+fn text_of(bytes: &[u8]) -> Option<&str>
+    ensures { option_copied result ≡ (if is_utf8 bytes.now then Some bytes.now else None) }
+{
+    match simdutf8::compat::from_utf8(bytes) {
+        Ok(text) => Some(text),
+        Err(_) => None,
+    }
+}
+
+/// The String at the front, and what follows it.
+pub(crate) fn string_front(input: &[u8]) -> Option<(Option<&str>, &[u8])>
+    ensures front { option_map (λ p. (option_copied p.0, p.1.now)) result ≡ string.grammar.front input.now }
+    ensures shorter { IfSome result (λ p. length p.1.now ≤ length input.now) }
+{
+    let (len, rest) = front_u32(input)?;
+    if len == u32::MAX {
+        return Some((None, rest));
+    }
+    if len > LONGEST || rest.len() < len as usize {
+        return None;
+    }
+    let (bytes, rest) = rest.split_at(len as usize);
+    let text = text_of(bytes)?;
+    Some((Some(text), rest))
+}
+
+/// The String at the front, as it lies in the bytes, and how many of them spell it. `None` where no beginning of the bytes spells one: they end
+/// before it does, its length is below -1, or it is not UTF-8.
+pub fn peek_string(input: &[u8]) -> Option<(Option<&str>, usize)>
+    ensures { Peeks string input.now (option_map (λ p. (option_copied p.0, p.1)) result) }
+{
+    match string_front(input) {
+        None => None,
+        Some((text, rest)) => Some((text, input.len() - rest.len())),
+    }
+}
+
+impl UaString {
+    /// The text that is none.
+    pub fn null() -> UaString
+        ensures { result ≡ None }
+    {
+        UaString { text: None }
+    }
+
+    /// A copy of the text. `TooLong` comes just where it has more than 2147483647 bytes.
+    pub fn new(alloc: Global, text: &str) -> Result<UaString, ValueFault>
+        ensures ok { IfOk result (λ v. v ≡ Some text.now) }
+        ensures too_long { IsErrOf result ValueFault.TooLong ↔ (longest < length text.now) }
+    {
+        if text.len() > LONGEST as usize {
+            return Err(ValueFault::TooLong);
+        }
+        Ok(UaString {
+            text: Some(String::from_str(alloc, text)?),
+        })
+    }
+
+    /// The text, if there is one.
+    pub fn get(&self) -> Option<&str>
+        ensures { option_copied result ≡ self.now }
+    {
+        match &self.text {
+            None => None,
+            Some(text) => Some(text.as_str()),
+        }
+    }
+}
+
+impl Wire for UaString {
+    ghost format = { string };
+
+    ghost most = { 2147483651 };
+
+    fn len(&self) -> u64 {
+        match &self.text {
+            None => 4,
+            Some(text) => 4 + text.len() as u64,
+        }
+    }
+
+    fn emit<S: Sink>(&self, out: &mut S) -> Result<(), NoMemory> {
+        match &self.text {
+            None => out.put(&[255, 255, 255, 255]),
+            Some(text) => {
+                out.put(&(text.len() as u32).to_le_bytes())?;
+                out.put(text.as_bytes())
+            }
+        }
+    }
+
+    fn copy(&self) -> Result<UaString, NoMemory> {
+        match &self.text {
+            None => Ok(UaString::null()),
+            Some(text) => Ok(UaString {
+                text: Some(text.clone()?),
+            }),
+        }
+    }
+
+    fn read_front(alloc: Global, input: &[u8]) -> Result<(UaString, &[u8]), ReadFault> {
+        match string_front(input) {
+            None => Err(ReadFault::Refused),
+            Some((None, rest)) => Ok((UaString::null(), rest)),
+            Some((Some(text), rest)) => Ok((
+                UaString {
+                    text: Some(String::from_str(alloc, text)?),
+                },
+                rest,
+            )),
+        }
+    }
+
+    ghost laws = { lawful_string };
+}

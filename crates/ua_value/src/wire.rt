@@ -1,0 +1,89 @@
+//! Values that are spelled as bytes.
+
+ghost use Rattle.std.specs.Prelude.{◌≡◌, ◌≤◌, ◌++◌, List, ℕ, length, if◌then◌else◌, is_ok, OnOk, OnErr, IfOk};
+ghost use Rattle.ua_value.specs.Format.{Format, IsLawful, Reads, Gives, AppendsPart, IsBytes, input_limit};
+
+use crate::fault::{NoMemory, ReadFault};
+use std::alloc::Global;
+
+/// What bytes are put into, one after another.
+pub trait Sink {
+    // what was put so far
+    ghost contents: { Self → List ℕ };
+
+    /// Appends the bytes. Where memory runs out it changes nothing.
+    fn put(&mut self, bytes: &[u8]) -> Result<(), NoMemory>
+        ensures { contents self.new ≡ (if is_ok result then contents self.old ++ bytes.now else contents self.old) };
+}
+
+impl Sink for Vec<u8> {
+    ghost contents = { λ v. v.items };
+
+    fn put(&mut self, bytes: &[u8]) -> Result<(), NoMemory> {
+        self.extend_from_slice(bytes)
+    }
+}
+
+/// A type whose values are spelled as bytes, by its format.
+pub trait Wire: Sized + Drop {
+    // which bytes spell which value, which spelling is written, and which values there are
+    ghost format: { Format Self };
+
+    // no canonical spelling is longer
+    ghost most: { ℕ };
+
+    /// The length of the canonical spelling, in bytes. It takes no memory.
+    fn len(&self) -> u64
+        ensures length { result ≡ length (format.canon self.now) }
+        ensures value { format.IsValue self.now }
+        ensures bound { result ≤ most };
+
+    /// Puts the canonical spelling. Where memory runs out a beginning of it was put.
+    fn emit<S: Sink>(&self, out: &mut S) -> Result<(), NoMemory>
+        ensures ok { OnOk result (S.contents out.new ≡ S.contents out.old ++ format.canon self.now) }
+        ensures err { OnErr result (AppendsPart (S.contents out.old) (S.contents out.new) (format.canon self.now)) };
+
+    /// Appends the canonical spelling. Where memory runs out `out` is unchanged.
+    fn write(&self, out: &mut Vec<u8>) -> Result<(), NoMemory>
+        ensures { out.new.items ≡ (if is_ok result then out.old.items ++ format.canon self.now else out.old.items) }
+    {
+        let start = out.len();
+        match self.emit(out) {
+            Ok(()) => Ok(()),
+            Err(e) => {
+                out.truncate(start);
+                Err(e)
+            }
+        }
+    }
+
+    /// An equal value, with memory of its own.
+    fn copy(&self) -> Result<Self, NoMemory>
+        ensures { IfOk result (λ v. v ≡ self.now) };
+
+    /// The value that the input begins with, and what follows it. `Refused` where no beginning of the input spells a value.
+    fn read_front(alloc: Global, input: &[u8]) -> Result<(Self, &[u8]), ReadFault>
+        requires { length input.now ≤ input_limit }
+        ensures gives { Gives (λ x. (x.0, x.1.now)) result (format.grammar.front input.now) }
+        ensures shorter { IfOk result (λ x. length x.1.now ≤ length input.now) };
+
+    /// The value that the input begins with, and how many bytes spell it. `Refused` where no beginning of the input spells a value. Nothing is
+    /// copied but what the value keeps.
+    fn read(alloc: Global, input: &[u8]) -> Result<(Self, usize), ReadFault>
+        requires { length input.now ≤ input_limit }
+        ensures { Reads format input.now result }
+    {
+        match Self::read_front(alloc, input) {
+            Ok((value, rest)) => Ok((value, input.len() - rest.len())),
+            Err(fault) => Err(fault),
+        }
+    }
+
+    // what is read is spelled so, what is spelled so is read, and the canonical spelling is one
+    ghost laws: { IsLawful format };
+}
+
+/// Says that the bytes are bytes.
+pub(crate) fn bytes_known(bytes: &[u8])
+    ensures { IsBytes bytes.now }
+{}

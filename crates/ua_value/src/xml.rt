@@ -1,0 +1,81 @@
+//! XML elements (OPC 10000-6 5.2.2.8): spelled as a String is.
+
+ghost use Rattle.std.specs.Prelude.{◌≡◌, ◌≤◌, ◌<◌, ◌↔◌, length, option_copied, Some, None, IfOk, IsErrOf};
+ghost use Rattle.ua_value.specs.Text.{xml_element, longest};
+ghost use Rattle.ua_value.specs.TextLaws.{lawful_xml_element};
+
+use crate::fault::{NoMemory, ReadFault, ValueFault};
+use crate::text::UaString;
+use crate::wire::{Sink, Wire};
+use std::alloc::Global;
+use std::marker::Model;
+
+/// The text of an XML element, of at most 2147483647 bytes, or none. It is kept as it came: that it is XML is not checked.
+#[derive(Debug, Drop)]
+pub struct XmlElement {
+    text: UaString,
+}
+
+impl Model for XmlElement {
+    ghost use Rattle.std.specs.Prelude.{ℕ, List, Option};
+
+    ghost Value = { Option (List ℕ) };
+
+    ghost view = { λ x. x.text };
+}
+
+impl XmlElement {
+    /// The element that is none.
+    pub fn null() -> XmlElement
+        ensures { result ≡ None }
+    {
+        XmlElement {
+            text: UaString::null(),
+        }
+    }
+
+    /// A copy of the text. `TooLong` comes just where it has more than 2147483647 bytes.
+    pub fn new(alloc: Global, text: &str) -> Result<XmlElement, ValueFault>
+        ensures ok { IfOk result (λ v. v ≡ Some text.now) }
+        ensures too_long { IsErrOf result ValueFault.TooLong ↔ (longest < length text.now) }
+    {
+        match UaString::new(alloc, text) {
+            Ok(text) => Ok(XmlElement { text }),
+            Err(fault) => Err(fault),
+        }
+    }
+
+    /// The text, if there is one.
+    pub fn get(&self) -> Option<&str>
+        ensures { option_copied result ≡ self.now }
+    {
+        self.text.get()
+    }
+}
+
+impl Wire for XmlElement {
+    ghost format = { xml_element };
+
+    ghost most = { 2147483651 };
+
+    fn len(&self) -> u64 {
+        self.text.len()
+    }
+
+    fn emit<S: Sink>(&self, out: &mut S) -> Result<(), NoMemory> {
+        self.text.emit(out)
+    }
+
+    fn copy(&self) -> Result<XmlElement, NoMemory> {
+        Ok(XmlElement {
+            text: self.text.copy()?,
+        })
+    }
+
+    fn read_front(alloc: Global, input: &[u8]) -> Result<(XmlElement, &[u8]), ReadFault> {
+        let (text, rest) = UaString::read_front(alloc, input)?;
+        Ok((XmlElement { text }, rest))
+    }
+
+    ghost laws = { lawful_xml_element };
+}
