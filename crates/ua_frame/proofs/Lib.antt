@@ -1,0 +1,2 @@
+pub mod Codecs
+mod Worked

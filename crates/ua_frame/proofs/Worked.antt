@@ -1,0 +1,102 @@
+-- A Hello, what it is answered, and bytes that are none, worked out by the definitions.
+use Rattle.std.specs.Prelude.{◌≡◌, ℕ, List, [], ◌∷◌, Some, None, Ok, Err, codes, refl}
+use Rattle.std.proofs.Math.ListN.{replicate}
+use Rattle.std.specs.Str.{is_utf8, chars}
+use lib.Utf8.{encode}
+use Rattle.ua_value.specs.Number.{unsigned}
+use Rattle.ua_value.specs.Text.{bytes_of}
+use Rattle.ua_frame.specs.declared.hello.Hello.{Hello}
+use Rattle.ua_frame.specs.declared.acknowledge.Ack.{Ack}
+use Rattle.ua_frame.specs.declared.limits.Limits.{Limits}
+use Rattle.ua_frame.specs.declared.kind.Kind.TheVariants as kinds
+use Rattle.ua_frame.specs.Streams.{cuts_within, rest_within, rest_of, plain, timed}
+use Rattle.ua_frame.specs.Layout.{kind_of, size_of, fields_of, frames_of}
+use Rattle.ua_frame.specs.Rows.{first_row}
+use Rattle.ua_frame.specs.HeaderRows.{header_fault}
+use Rattle.ua_frame.specs.Hello.{hello_layout, acknowledge_layout, error_layout, hello_of, hello_frame, acknowledge_frame, error_frame, hello_rows, hello_answer}
+
+abbrev hello_bytes : List ℕ
+hello_bytes = 0x48 ∷ 0x45 ∷ 0x4C ∷ 0x46 ∷ 0x38 ∷ 0x00 ∷ 0x00 ∷ 0x00 ∷ 0x00 ∷ 0x00 ∷ 0x00 ∷ 0x00 ∷ 0xFF ∷ 0xFF ∷ 0x00 ∷ 0x00 ∷ 0xFF ∷ 0xFF ∷ 0x00 ∷ 0x00 ∷ 0x00 ∷ 0x00 ∷ 0x00 ∷ 0x00 ∷ 0x00 ∷ 0x00 ∷ 0x00 ∷ 0x00 ∷ 0x18 ∷ 0x00 ∷ 0x00 ∷ 0x00 ∷ 0x6F ∷ 0x70 ∷ 0x63 ∷ 0x2E ∷ 0x74 ∷ 0x63 ∷ 0x70 ∷ 0x3A ∷ 0x2F ∷ 0x2F ∷ 0x6C ∷ 0x6F ∷ 0x63 ∷ 0x61 ∷ 0x6C ∷ 0x68 ∷ 0x6F ∷ 0x73 ∷ 0x74 ∷ 0x3A ∷ 0x34 ∷ 0x38 ∷ 0x34 ∷ 0x30 ∷ []
+
+abbrev acknowledge_bytes : List ℕ
+acknowledge_bytes = 0x41 ∷ 0x43 ∷ 0x4B ∷ 0x46 ∷ 0x1C ∷ 0x00 ∷ 0x00 ∷ 0x00 ∷ 0x00 ∷ 0x00 ∷ 0x00 ∷ 0x00 ∷ 0xFF ∷ 0xFF ∷ 0x00 ∷ 0x00 ∷ 0xFF ∷ 0xFF ∷ 0x00 ∷ 0x00 ∷ 0x00 ∷ 0x00 ∷ 0x10 ∷ 0x00 ∷ 0x40 ∷ 0x00 ∷ 0x00 ∷ 0x00 ∷ []
+
+abbrev url : List ℕ
+url = codes "opc.tcp://localhost:4840"
+
+abbrev hello : Hello
+hello = record { version = 0; receive = 65535; send = 65535; max_message = 0; max_chunks = 0; url = Some url }
+
+abbrev limits : Limits
+limits = record { receive = 65535; send = 65535; max_message = 1048576; max_chunks = 64 }
+
+abbrev acknowledge : Ack
+acknowledge = record { version = 0; receive = 65535; send = 65535; max_message = 1048576; max_chunks = 64 }
+
+hello_spelled : hello_frame hello ≡ hello_bytes
+unfolding hello_layout unsigned bytes_of
+hello_spelled = refl
+
+hello_read : hello_of (fields_of hello_bytes) ≡ Some hello
+unfolding hello_layout unsigned bytes_of is_utf8 chars encode
+hello_read = refl
+
+hello_kind : kind_of hello_bytes ≡ Some kinds.Hello
+unfolding kind_of
+hello_kind = refl
+
+hello_passes : header_fault 8192 hello_bytes ≡ None
+unfolding kind_of size_of
+hello_passes = refl
+
+hello_answered : hello_answer limits hello ≡ Ok acknowledge
+hello_answered = refl
+
+acknowledge_spelled : acknowledge_frame acknowledge ≡ acknowledge_bytes
+unfolding acknowledge_layout unsigned
+acknowledge_spelled = refl
+
+-- ---- frames of a stream
+
+-- two pieces, cut in the header: the frame has the moment of its last byte
+one_frame : frames_of (timed (record { moment = 5; bytes = 0x48 ∷ 0x45 ∷ 0x4C ∷ 0x46 ∷ 0x38 ∷ 0x00 ∷ [] } ∷ record { moment = 3; bytes = 0x00 ∷ 0x00 ∷ 0x00 ∷ 0x00 ∷ 0x00 ∷ 0x00 ∷ 0xFF ∷ 0xFF ∷ 0x00 ∷ 0x00 ∷ 0xFF ∷ 0xFF ∷ 0x00 ∷ 0x00 ∷ 0x00 ∷ 0x00 ∷ 0x00 ∷ 0x00 ∷ 0x00 ∷ 0x00 ∷ 0x00 ∷ 0x00 ∷ 0x18 ∷ 0x00 ∷ 0x00 ∷ 0x00 ∷ 0x6F ∷ 0x70 ∷ 0x63 ∷ 0x2E ∷ 0x74 ∷ 0x63 ∷ 0x70 ∷ 0x3A ∷ 0x2F ∷ 0x2F ∷ 0x6C ∷ 0x6F ∷ 0x63 ∷ 0x61 ∷ 0x6C ∷ 0x68 ∷ 0x6F ∷ 0x73 ∷ 0x74 ∷ 0x3A ∷ 0x34 ∷ 0x38 ∷ 0x34 ∷ 0x30 ∷ [] } ∷ [])) ≡ record { bytes = hello_bytes; moment = 5 } ∷ []
+unfolding cuts_within size_of
+one_frame = refl
+
+cut_frame : plain (rest_of (timed (record { moment = 0; bytes = 0x48 ∷ 0x45 ∷ 0x4C ∷ 0x46 ∷ 0x38 ∷ 0x00 ∷ 0x00 ∷ 0x00 ∷ 0x00 ∷ 0x00 ∷ 0x00 ∷ 0x00 ∷ 0xFF ∷ 0xFF ∷ 0x00 ∷ 0x00 ∷ 0xFF ∷ 0xFF ∷ 0x00 ∷ 0x00 ∷ 0x00 ∷ 0x00 ∷ 0x00 ∷ 0x00 ∷ 0x00 ∷ 0x00 ∷ 0x00 ∷ 0x00 ∷ 0x18 ∷ 0x00 ∷ 0x00 ∷ 0x00 ∷ 0x6F ∷ 0x70 ∷ 0x63 ∷ 0x2E ∷ 0x74 ∷ 0x63 ∷ 0x70 ∷ 0x3A ∷ 0x2F ∷ 0x2F ∷ 0x6C ∷ 0x6F ∷ 0x63 ∷ 0x61 ∷ 0x6C ∷ 0x68 ∷ 0x6F ∷ 0x73 ∷ 0x74 ∷ 0x3A ∷ 0x34 ∷ 0x38 ∷ 0x34 ∷ [] } ∷ []))) ≡ 0x48 ∷ 0x45 ∷ 0x4C ∷ 0x46 ∷ 0x38 ∷ 0x00 ∷ 0x00 ∷ 0x00 ∷ 0x00 ∷ 0x00 ∷ 0x00 ∷ 0x00 ∷ 0xFF ∷ 0xFF ∷ 0x00 ∷ 0x00 ∷ 0xFF ∷ 0xFF ∷ 0x00 ∷ 0x00 ∷ 0x00 ∷ 0x00 ∷ 0x00 ∷ 0x00 ∷ 0x00 ∷ 0x00 ∷ 0x00 ∷ 0x00 ∷ 0x18 ∷ 0x00 ∷ 0x00 ∷ 0x00 ∷ 0x6F ∷ 0x70 ∷ 0x63 ∷ 0x2E ∷ 0x74 ∷ 0x63 ∷ 0x70 ∷ 0x3A ∷ 0x2F ∷ 0x2F ∷ 0x6C ∷ 0x6F ∷ 0x63 ∷ 0x61 ∷ 0x6C ∷ 0x68 ∷ 0x6F ∷ 0x73 ∷ 0x74 ∷ 0x3A ∷ 0x34 ∷ 0x38 ∷ 0x34 ∷ []
+unfolding rest_within size_of
+cut_frame = refl
+
+-- ---- refusals
+
+-- an HTTP request: the type is judged before the size
+http_refused : header_fault 8192 (0x47 ∷ 0x45 ∷ 0x54 ∷ 0x20 ∷ 0x2F ∷ 0x20 ∷ 0x48 ∷ 0x54 ∷ []) ≡ Some 0x807E0000
+unfolding kind_of size_of
+http_refused = refl
+
+error_spelled : error_frame (record { status = 0x807E0000; reason = None }) ≡ 0x45 ∷ 0x52 ∷ 0x52 ∷ 0x46 ∷ 0x10 ∷ 0x00 ∷ 0x00 ∷ 0x00 ∷ 0x00 ∷ 0x00 ∷ 0x7E ∷ 0x80 ∷ 0xFF ∷ 0xFF ∷ 0xFF ∷ 0xFF ∷ []
+unfolding error_layout unsigned bytes_of
+error_spelled = refl
+
+small_refused : hello_answer limits (record hello { receive = 8191 }) ≡ Err 0x80810000
+small_refused = refl
+
+smallest_accepted : hello_answer limits (record hello { receive = 8192 }) ≡ Ok (record acknowledge { send = 8192 })
+smallest_accepted = refl
+
+smallest_spelled : acknowledge_frame (record acknowledge { send = 8192 }) ≡ 0x41 ∷ 0x43 ∷ 0x4B ∷ 0x46 ∷ 0x1C ∷ 0x00 ∷ 0x00 ∷ 0x00 ∷ 0x00 ∷ 0x00 ∷ 0x00 ∷ 0x00 ∷ 0xFF ∷ 0xFF ∷ 0x00 ∷ 0x00 ∷ 0x00 ∷ 0x20 ∷ 0x00 ∷ 0x00 ∷ 0x00 ∷ 0x00 ∷ 0x10 ∷ 0x00 ∷ 0x40 ∷ 0x00 ∷ 0x00 ∷ 0x00 ∷ []
+unfolding acknowledge_layout unsigned
+smallest_spelled = refl
+
+longest_url_accepted : hello_answer limits (record hello { url = Some (replicate 4095 97) }) ≡ Ok acknowledge
+longest_url_accepted = refl
+
+longer_url_refused : hello_answer limits (record hello { url = Some (replicate 4096 97) }) ≡ Err 0x80830000
+longer_url_refused = refl
+
+null_url_accepted : hello_answer limits (record hello { url = None }) ≡ Ok acknowledge
+null_url_accepted = refl
+
+no_hello_refused : first_row (hello_rows (hello_of (1 ∷ 2 ∷ []))) ≡ Some 0x80070000
+unfolding hello_layout unsigned
+no_hello_refused = refl

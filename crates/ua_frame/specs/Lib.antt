@@ -1,0 +1,10 @@
+pub mod Streams
+pub mod StreamLaws
+pub mod Layout
+pub mod LayoutLaws
+pub mod MomentLaws
+pub mod Rows
+pub mod HeaderRows
+pub mod HeaderLaws
+pub mod Hello
+pub mod HelloLaws

@@ -1,0 +1,24 @@
+//! Frames of the OPC UA connection protocol (OPC 10000-6, 7.1): their headers, and those before a secure channel.
+#![tactic(auto)]
+
+mod acknowledge;
+mod error_frame;
+mod frame;
+mod hello;
+mod kind;
+pub mod laws;
+mod limits;
+mod negotiation;
+pub mod status;
+mod writing;
+
+pub use acknowledge::Ack;
+pub use error_frame::ErrorFrame;
+pub use frame::{Frame, frame_at};
+pub use hello::Hello;
+pub use kind::Kind;
+pub use limits::Limits;
+pub use negotiation::negotiate;
+
+#[cfg(test)]
+mod tests;

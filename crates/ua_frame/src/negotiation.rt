@@ -1,0 +1,56 @@
+//! What a Hello and a server's limits agree on.
+
+ghost use Rattle.std.specs.Prelude.{◌≡◌, None, Some, IfOk, IfErr};
+ghost use Rattle.ua_frame.specs.Rows.{first_row};
+ghost use Rattle.ua_frame.specs.Hello.{is_long as long_url, hello_rows, negotiated, hello_answer};
+
+use crate::acknowledge::Ack;
+use crate::hello::Hello;
+use crate::limits::Limits;
+use crate::status::{BAD_TCP_ENDPOINT_URL_INVALID, BAD_TCP_NOT_ENOUGH_RESOURCES};
+use ua_value::UaString;
+
+/// The version of the connection protocol that is spoken.
+const VERSION: u32 = 0;
+
+/// Bytes of the longest url.
+const LONGEST_URL: usize = 4095;
+
+/// Bytes of the smallest buffer that an end may have.
+const SMALLEST_BUFFER: u32 = 8192;
+
+fn is_long(url: &UaString) -> bool
+    ensures { result ≡ long_url url.now }
+{
+    match url.get() {
+        None => false,
+        Some(url) => url.len() > LONGEST_URL,
+    }
+}
+
+/// What a server with these limits answers to a Hello.
+///
+/// The version is 0; each direction gets the lesser of what its two ends take, and the limits on requests are the
+/// server's. Any version of the client is accepted, and any url of at most 4095 bytes, null included. `Err` is the
+/// status of the first thing that is wrong: a url of more than 4095 bytes (`BAD_TCP_ENDPOINT_URL_INVALID`), then a
+/// buffer of the client's of less than 8192 bytes (`BAD_TCP_NOT_ENOUGH_RESOURCES`). OPC 10000-6, 7.1.2.3 and 7.1.2.4.
+pub fn negotiate(hello: &Hello, limits: &Limits) -> Result<Ack, u32>
+    ensures refused { IfErr result (λ status. first_row (hello_rows (Some hello.now)) ≡ Some status) }
+    ensures passed { IfOk result (λ ack. first_row (hello_rows (Some hello.now)) ≡ None) }
+    ensures agreed { IfOk result (λ ack. ack ≡ negotiated limits.now hello.now) }
+    ensures exact { result ≡ hello_answer limits.now hello.now }
+{
+    if is_long(&hello.url) {
+        return Err(BAD_TCP_ENDPOINT_URL_INVALID);
+    }
+    if hello.receive < SMALLEST_BUFFER || hello.send < SMALLEST_BUFFER {
+        return Err(BAD_TCP_NOT_ENOUGH_RESOURCES);
+    }
+    Ok(Ack {
+        version: VERSION,
+        receive: limits.receive.min(hello.send),
+        send: limits.send.min(hello.receive),
+        max_message: limits.max_message,
+        max_chunks: limits.max_chunks,
+    })
+}
