@@ -1,20 +1,60 @@
 //! The command `uadisc`.
 #![tactic(auto)]
 
+mod answer;
+mod command;
+mod conversation;
+mod input;
+mod laws;
+mod looking;
+mod outcome;
 mod run;
+mod script;
+mod server;
+mod stop;
+mod text;
+mod type_name;
+mod value;
+#[cfg(test)]
+mod vectors;
 
+use crate::run::{run, told};
+use crate::stop::Stop;
 use std::process::ExitCode;
+use std::rt::Env;
 use std::{env, io};
 
-fn main(rt: HostRuntime) -> io::Result<ExitCode> {
-    let alloc = rt.alloc();
-    let words: Vec<String> = env::args(&rt)?.skip(1).collect(alloc)?;
-    let status = run::run(
-        alloc,
-        &words,
+fn main(rt: HostRuntime) -> ExitCode {
+    let status = match words(&rt) {
+        Ok(words) => run_words(&rt, words.as_slice()),
+        Err(stop) => Err(stop),
+    };
+    match status {
+        Ok(status) => ExitCode::from(status),
+        Err(stop) => ExitCode::from(told(&stop, &mut rt.stderr())),
+    }
+}
+
+/// The words after the program's name. One that is not UTF-8 is refused.
+fn words<R: Env + AllocGlobal>(rt: &R) -> Result<Vec<String>, Stop> {
+    match env::args(rt) {
+        Ok(words) => Ok(words.skip(1).collect(rt.alloc())?),
+        Err(error) if error.kind() == io::ErrorKind::OutOfMemory => Err(Stop::NoMemory),
+        Err(_) => Err(Stop::Words(String::from_str(rt.alloc(), "words\n")?)),
+    }
+}
+
+fn run_words(rt: &HostRuntime, words: &[String]) -> Result<u8, Stop> {
+    let mut lent: Vec<&str> = Vec::new(rt.alloc());
+    for word in words {
+        lent.push(word.as_str())?;
+    }
+    let status = run(
+        rt,
+        lent.as_slice(),
         &mut rt.stdin(),
         &mut rt.stdout(),
         &mut rt.stderr(),
     );
-    Ok(ExitCode::from(status))
+    Ok(status)
 }

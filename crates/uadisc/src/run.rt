@@ -1,30 +1,53 @@
 //! What the command does, over any reader and writers.
 
-use std::alloc::Global;
-use std::io;
-use std::io::{BufRead, BufReader, Read, Write};
+ghost use Rattle.std.specs.Prelude.{◌≡◌, ◌≤◌, IfOk};
+ghost use Rattle.uadisc.specs.Stop.{status_of};
 
-/// Runs the command and gives its exit status.
-pub fn run<I: Read, O: Write, E: Write>(
-    alloc: Global,
-    _words: &[String],
-    input: &mut I,
-    output: &mut O,
-    errors: &mut E,
-) -> u8 {
-    match print_lines(alloc, input, output) {
-        Ok(()) => 0,
-        Err(_) => {
-            let _ = writeln!(errors, "file");
-            3
-        }
+use crate::answer::answer;
+use crate::command::{Command, command_of};
+use crate::stop::Stop;
+use crate::value::value;
+use std::alloc::Global;
+use std::io::{Read, Write};
+
+#[cfg(test)]
+mod tests;
+
+/// Runs the command that the words are, which are those after the program's name, and gives the
+/// exit status: 0 done, 1 input refused, 2 words refused, 3 a failed read or write, 4 want of
+/// memory. What stopped the command is told on `errors`, where a failed write is passed over.
+pub fn run<R, I, O, E>(rt: &R, words: &[&str], input: &mut I, output: &mut O, errors: &mut E) -> u8
+where
+    R: AllocGlobal,
+    I: Read,
+    O: Write,
+    E: Write,
+    ensures { result ≤ 4 }
+{
+    match done(rt.alloc(), words, input, output) {
+        Ok(status) => status,
+        Err(stop) => told(&stop, errors),
     }
 }
 
-/// Prints each line of the input.
-fn print_lines<I: Read, O: Write>(alloc: Global, input: &mut I, output: &mut O) -> io::Result<()> {
-    for line in BufReader::new(alloc, input)?.lines(alloc) {
-        writeln!(output, "{}", line?)?;
+/// Tells what stopped the command, and gives the exit status; a failed write is passed over.
+pub fn told<E: Write>(stop: &Stop, errors: &mut E) -> u8
+    ensures { result ≡ status_of stop.now }
+{
+    let _ = write!(errors, "{stop}");
+    stop.status()
+}
+
+fn done<I: Read, O: Write>(
+    alloc: Global,
+    words: &[&str],
+    input: &mut I,
+    output: &mut O,
+) -> Result<u8, Stop>
+    ensures { IfOk result (λ status. status ≤ 1) }
+{
+    match command_of(alloc, words)? {
+        Command::Answer => answer(alloc, input, output),
+        Command::Value { kind, bytes } => value(alloc, kind, bytes.as_slice(), output),
     }
-    Ok(())
 }

@@ -1,0 +1,48 @@
+-- The command line as clap reads it.
+use Rattle.std.specs.Prelude.{◌≡◌, ℕ, codes, true, Some, None, Option, List, Ok}
+use Rattle.clap.specs.Words.{App, Rule, Row, Text, first_of, new_app, new_rule, with_rule, with_subcommand}
+use Rattle.clap.specs.declared.builder.action.ArgAction.TheVariants.{Set}
+use Rattle.hex.specs.Hex.{decode_of}
+use Rattle.uadisc.specs.TypeNames.{name_of}
+use Rattle.uadisc.specs.declared.command.Command.{Command}
+use Rattle.uadisc.specs.declared.command.Command.TheVariants.{Answer, Value}
+
+-- a word that has to be there
+abbrev pub word_rule : Text → Rule
+word_rule id = record (new_rule id) { required = true; action = Some Set }
+
+abbrev pub answer_app : App
+answer_app = with_rule (new_app (codes "answer")) (word_rule (codes "settings"))
+
+abbrev pub value_app : App
+value_app = with_rule (with_rule (new_app (codes "value")) (word_rule (codes "type"))) (word_rule (codes "hex"))
+
+abbrev pub plain : App
+plain = let a = new_app (codes "uadisc") in record a { top = record (a.top) { no_binary_name = true; subcommand_required = true } }
+
+abbrev pub uadisc : App
+uadisc = with_subcommand (with_subcommand plain answer_app.top) value_app.top
+
+-- the text of each id, where it has one
+abbrev pub Words : Type 0
+Words = Text → Option Text
+
+-- these are hex digits, and the bytes that they stand for
+abbrev pub IsHexOf : List ℕ → Option Text → Type 0
+IsHexOf bytes None = ⊥
+IsHexOf bytes (Some digits) = decode_of digits ≡ Ok bytes
+
+-- the command is `answer` with the settings among these words
+abbrev pub IsAnswerOf : Words → Command → Type 0
+IsAnswerOf word Answer = word (codes "settings") ≡ Some (codes "default")
+IsAnswerOf word (Value kind bytes) = ⊥
+
+-- the command is `value` with the type and the bytes among these words
+abbrev pub IsValueOf : Words → Command → Type 0
+IsValueOf word Answer = ⊥
+IsValueOf word (Value kind bytes) = (word (codes "type") ≡ Some (name_of kind)) × IsHexOf bytes.items (word (codes "hex"))
+
+-- the words name this command, with these values
+abbrev pub Asks : Option (Text × List Row) → Command → Type 0
+Asks found Answer = (rows : List Row) × (found ≡ Some (codes "answer", rows)) × IsAnswerOf (λ id. first_of id rows) Answer
+Asks found (Value kind bytes) = (rows : List Row) × (found ≡ Some (codes "value", rows)) × IsValueOf (λ id. first_of id rows) (Value kind bytes)

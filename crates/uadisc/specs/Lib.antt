@@ -1,0 +1,15 @@
+pub mod TypeNames
+pub mod Command
+pub mod Script
+pub mod Stop
+pub mod Printed
+pub mod End
+pub mod Past
+pub mod Faults
+pub mod Replies
+pub mod Held
+pub mod Machine
+pub mod FirstFault
+pub mod Whole
+pub mod Looking
+pub mod Feeding

@@ -1,0 +1,27 @@
+-- The names of the built-in types.
+use Rattle.std.specs.Prelude.{ℕ, List, codes}
+use Rattle.uadisc.specs.declared.type_name.TypeName.{TypeName}
+use Rattle.uadisc.specs.declared.type_name.TypeName.TheVariants.{Boolean, SByte, Byte, Int16, UInt16, Int32, UInt32, Int64, UInt64, Float, Double, String, DateTime, Guid, ByteString, XmlElement, NodeId, ExpandedNodeId, StatusCode, QualifiedName, LocalizedText}
+
+abbrev pub name_of : TypeName → List ℕ
+name_of Boolean = codes "Boolean"
+name_of SByte = codes "SByte"
+name_of Byte = codes "Byte"
+name_of Int16 = codes "Int16"
+name_of UInt16 = codes "UInt16"
+name_of Int32 = codes "Int32"
+name_of UInt32 = codes "UInt32"
+name_of Int64 = codes "Int64"
+name_of UInt64 = codes "UInt64"
+name_of Float = codes "Float"
+name_of Double = codes "Double"
+name_of String = codes "String"
+name_of DateTime = codes "DateTime"
+name_of Guid = codes "Guid"
+name_of ByteString = codes "ByteString"
+name_of XmlElement = codes "XmlElement"
+name_of NodeId = codes "NodeId"
+name_of ExpandedNodeId = codes "ExpandedNodeId"
+name_of StatusCode = codes "StatusCode"
+name_of QualifiedName = codes "QualifiedName"
+name_of LocalizedText = codes "LocalizedText"

@@ -1,0 +1,142 @@
+//! The words of the command.
+
+ghost use Rattle.std.specs.Prelude.{◌≡◌, IfOk, IfSome, false, map};
+ghost use Rattle.clap.specs.Words.{app_of, rule_of, subcommand_of, subcommand_rows_of, first_value, found_of};
+ghost use Rattle.clap.specs.declared.builder.command.Command.TheViews.{out-Command};
+ghost use Rattle.uadisc.specs.Command.{Asks, IsAnswerOf, IsValueOf, word_rule, answer_app, value_app, uadisc};
+
+use crate::type_name::{TypeName, of_name};
+use clap::error::ErrorKind;
+use clap::{Arg, ArgAction, ArgMatches, Command as Parser};
+use hex::FromHexError;
+use std::alloc::{AllocError, Global};
+
+/// What the words ask for.
+#[derive(Debug, Drop)]
+pub enum Command {
+    /// Answer the pieces of standard input by the built-in settings.
+    Answer,
+    /// Read a value of this type from these bytes.
+    Value { kind: TypeName, bytes: Vec<u8> },
+}
+
+/// Why the words are no command.
+#[derive(Debug, Drop)]
+pub enum WordsFault {
+    /// They are refused, and this is the text to print.
+    Refused(String),
+    /// A growth was refused.
+    NoMemory,
+}
+
+fn required<'a>(alloc: Global, id: &'a str) -> Arg<'a>
+    ensures local { result.global ≡ false }
+    ensures rule { rule_of result ≡ word_rule id.entry.now }
+{
+    Arg::new(alloc, id).required(true).action(ArgAction::Set)
+}
+
+fn answer_parser<'a>(alloc: Global) -> Result<Parser<'a>, AllocError>
+    ensures app { IfOk result (λ c. app_of c ≡ answer_app) }
+    ensures local { IfOk result (λ c. (out-Command c).has_globals ≡ false) }
+{
+    Parser::new(alloc, "answer").arg(required(alloc, "settings"))
+}
+
+fn value_parser<'a>(alloc: Global) -> Result<Parser<'a>, AllocError>
+    ensures app { IfOk result (λ c. app_of c ≡ value_app) }
+    ensures local { IfOk result (λ c. (out-Command c).has_globals ≡ false) }
+{
+    Parser::new(alloc, "value")
+        .arg(required(alloc, "type"))?
+        .arg(required(alloc, "hex"))
+}
+
+fn parser<'a>(alloc: Global) -> Result<Parser<'a>, AllocError>
+    ensures app { IfOk result (λ c. app_of c ≡ uadisc) }
+    ensures local { IfOk result (λ c. (out-Command c).has_globals ≡ false) }
+{
+    let answer = answer_parser(alloc)?;
+    let value = value_parser(alloc)?;
+    Parser::new(alloc, "uadisc")
+        .no_binary_name(true)
+        .subcommand_required(true)
+        .subcommand(answer)?
+        .subcommand(value)
+}
+
+/// The command that the words are, which are those after the program's name.
+///
+/// `Refused` has the text to print: that of `clap` where it refuses the words, or asks for its
+/// help, and `words` where it takes them and a word is none that it may be: settings other than
+/// `default`, a type that has no such name, or hex that is none. The call changes nothing.
+pub fn command_of(alloc: Global, words: &[&str]) -> Result<Command, WordsFault>
+    ensures { IfOk result (Asks (subcommand_of uadisc (map (λ w. w.now) words.entry.now))) }
+{
+    let Ok(parser) = parser(alloc) else {
+        return Err(WordsFault::NoMemory);
+    };
+    match parser.try_get_matches_from(words) {
+        Ok(matches) => command_in(alloc, &matches),
+        Err(error) => Err(refused(alloc, error)),
+    }
+}
+
+fn refused(alloc: Global, error: clap::Error) -> WordsFault {
+    if error.kind() == ErrorKind::OutOfMemory {
+        return WordsFault::NoMemory;
+    }
+    match error.to_string(alloc) {
+        Ok(text) => WordsFault::Refused(text),
+        Err(_) => WordsFault::NoMemory,
+    }
+}
+
+/// The fault of words that `clap` takes.
+fn bad_word(alloc: Global) -> WordsFault {
+    match String::from_str(alloc, "words\n") {
+        Ok(text) => WordsFault::Refused(text),
+        Err(_) => WordsFault::NoMemory,
+    }
+}
+
+fn command_in(alloc: Global, matches: &ArgMatches) -> Result<Command, WordsFault>
+    ensures { IfOk result (Asks (subcommand_rows_of matches.now)) }
+{
+    let Some((name, inner)) = matches.subcommand() else {
+        return Err(bad_word(alloc));
+    };
+    match name {
+        "answer" => answer_in(alloc, inner),
+        "value" => value_in(alloc, inner),
+        _ => Err(bad_word(alloc)),
+    }
+}
+
+fn answer_in(alloc: Global, matches: &ArgMatches) -> Result<Command, WordsFault>
+    ensures { IfOk result (IsAnswerOf (first_value (found_of matches.now))) }
+{
+    match matches.get_str("settings") {
+        Some("default") => Ok(Command::Answer),
+        _ => Err(bad_word(alloc)),
+    }
+}
+
+fn value_in(alloc: Global, matches: &ArgMatches) -> Result<Command, WordsFault>
+    ensures { IfOk result (IsValueOf (first_value (found_of matches.now))) }
+{
+    let Some(name) = matches.get_str("type") else {
+        return Err(bad_word(alloc));
+    };
+    let Some(digits) = matches.get_str("hex") else {
+        return Err(bad_word(alloc));
+    };
+    let Some(kind) = of_name(name) else {
+        return Err(bad_word(alloc));
+    };
+    match hex::decode(alloc, digits) {
+        Ok(bytes) => Ok(Command::Value { kind, bytes }),
+        Err(FromHexError::OutOfMemory) => Err(WordsFault::NoMemory),
+        Err(_) => Err(bad_word(alloc)),
+    }
+}
