@@ -1,0 +1,115 @@
+-- The elements of an array in memory.
+use Rattle.std.proofs.Common.{◌≡◌, ℕ, ℤ, Bool, true, zero, suc, ◌+◌, ◌<◌, ◌≤◌, max, List, [], ◌∷◌, ◌++◌, map, length, get_or, take, drop, Option, Some, None, refl, sym, ap, subst, ◌∙◌, append_assoc, arith, is_some, add-one, drop-cons}
+use Rattle.std.specs.List.{flat_map}
+use Rattle.std.specs.Int.{w32, to_le_bytes}
+use Rattle.std.proofs.lemmas.List.{take-append-drop}
+use Rattle.std.proofs.lemmas.List.Concat.{flat_map-cons, flat_map-append}
+use Rattle.ua_value.specs.Format.{AppendsPart, input_limit}
+use Rattle.ua_value.specs.Text as text
+use Rattle.std.specs.Global.{Vec}
+use Rattle.ua_variant.specs.declared.kind.Kind as code_kind
+use Rattle.ua_variant.specs.declared.variant.Element as code
+use Rattle.ua_variant.specs.declared.variant.Body.{Body}
+use Rattle.ua_variant.specs.declared.variant.Body.TheVariants as bodies
+use Rattle.ua_variant.specs.Kinds.{Kind}
+use Rattle.ua_variant.specs.Values.{Element, Variant, depth, element_depth, items_depth, list_depth, items_of, count, array_with}
+use Rattle.ua_variant.specs.Spelling.{canon, element_canon, items_canon, shape_canon, head_of, IsVariant, IsSound}
+use Rattle.ua_variant.specs.Lists.{canon_of_items, canon_of_list, IsShortList}
+use Rattle.ua_variant.specs.View.{element, items_in, body_of, kind_of}
+
+item_within : (es : List code.Element) (k : ℕ) (d : code.Element) → k < length es → element_depth (element (get_or es k d)) ≤ items_depth (items_of (map element es))
+item_within [] k d h = absurd (omega arith)
+item_within (e ∷ es) zero d h = omega arith
+item_within (e ∷ es) (suc k) d h = omega (arith, item_within es k d (omega arith))
+
+-- an element is no deeper than the list
+pub this_within : (es : List code.Element) (k : ℕ) (e : code.Element) → k < length es → e ≡ get_or es k e → element_depth (element e) ≤ items_depth (items_of (map element es))
+this_within es k e h is = omega (arith, item_within es k e h, ap (λ x. element_depth (element x)) is)
+
+-- the canonical spelling of an element in memory
+abbrev pub spelled : code.Element → List ℕ
+spelled e = element_canon (element e)
+
+pub canon_flat : (es : List code.Element) → canon_of_items (map element es) ≡ flat_map spelled es
+canon_flat [] = refl
+canon_flat (e ∷ es) = ap (λ b. spelled e ++ b) (canon_flat es) ∙ sym (flat_map-cons spelled e es)
+
+-- item i of a list, and those after it
+here : {V : Type 0} (vs : List V) (i : ℕ) (v : V) → i < length vs → v ≡ get_or vs i v → drop i vs ≡ v ∷ drop (i + 1) vs
+here vs i v lt e = rw add-one (drop-cons vs i v lt ∙ ap (λ x. x ∷ drop (suc i) vs) (sym e))
+
+flat_here : {V : Type 0} (f : V → List ℕ) (vs : List V) (i : ℕ) (v : V) → i < length vs → v ≡ get_or vs i v → flat_map f (drop i vs) ≡ f v ++ flat_map f (drop (i + 1) vs)
+flat_here f vs i v lt e = ap (flat_map f) (here vs i v lt e) ∙ flat_map-cons f v (drop (i + 1) vs)
+
+-- a beginning of one item, behind the items before it
+pub appends_part : {V : Type 0} (f : V → List ℕ) (vs : List V) (i : ℕ) (v : V) (old between new : List ℕ) → i < length vs → v ≡ get_or vs i v
+    → between ≡ old ++ flat_map f (take i vs) → AppendsPart between new (f v) → AppendsPart old new (flat_map f vs)
+appends_part f vs i v old between new lt e so_far p = record {
+  part = flat_map f (take i vs) ++ p.part;
+  missing = p.missing ++ flat_map f (drop (i + 1) vs);
+  appended = p.appended ∙ ap (λ (l : List ℕ). l ++ p.part) so_far ∙ append_assoc old (flat_map f (take i vs)) p.part;
+  begins = ap (flat_map f) (sym (take-append-drop i vs)) ∙ flat_map-append f (take i vs) (drop i vs) ∙ ap (λ (l : List ℕ). flat_map f (take i vs) ++ l) (flat_here f vs i v lt e ∙ ap (λ (l : List ℕ). l ++ flat_map f (drop (i + 1) vs)) p.begins)
+      ∙ simp append_assoc;
+}
+
+-- ---- one behind another
+
+pub first_part : (old new whole others : List ℕ) → AppendsPart old new whole → AppendsPart old new (whole ++ others)
+first_part old new whole others p = record { part = p.part; missing = p.missing ++ others; appended = p.appended; begins = ap (λ (l : List ℕ). l ++ others) p.begins ∙ append_assoc p.part p.missing others }
+
+pub later_part : (old between new first others : List ℕ) → between ≡ old ++ first → AppendsPart between new others → AppendsPart old new (first ++ others)
+later_part old between new first others e p = record { part = first ++ p.part; missing = p.missing; appended = p.appended ∙ ap (λ (l : List ℕ). l ++ p.part) e ∙ append_assoc old first p.part; begins = ap (λ (l : List ℕ). first ++ l) p.begins ∙ sym (append_assoc first p.part p.missing) }
+
+-- ---- an array
+
+count_items : (es : List Element) → count (items_of es) ≡ length es
+count_items [] = refl
+count_items (e ∷ es) = ap suc (count_items es)
+
+short_list : (k : Kind) (o : Option (List Element)) (ds : Option (List ℤ)) → IsSound (array_with k o ds) → IsShortList o
+short_list k None ds h = tt
+short_list k (Some es) ds h = (omega (arith, h.0, count_items es), h.1)
+
+pub short : (b : Body) (k : code_kind.Kind) (o : Option (Vec code.Element)) (ds : Option (List ℤ)) → b ≡ bodies.Array k o ds → IsVariant (body_of b) → IsShortList (items_in o)
+short b k o ds e h = short_list (kind_of k) (items_in o) ds (subst (λ (x : Body). IsVariant (body_of x)) e h).sound
+
+list_canon : (k : Kind) (o : Option (List Element)) (ds : Option (List ℤ)) → canon (array_with k o ds) ≡ head_of k (is_some ds) true ∷ (canon_of_list o ++ shape_canon ds)
+list_canon k None ds = refl
+list_canon k (Some es) ds = rw (count_items es, append_assoc) refl
+
+pub array_canon : (b : Body) (k : code_kind.Kind) (o : Option (Vec code.Element)) (ds : Option (List ℤ)) → b ≡ bodies.Array k o ds → canon (body_of b) ≡ (head_of (kind_of k) (is_some ds) true ∷ []) ++ (canon_of_list (items_in o) ++ shape_canon ds)
+array_canon b k o ds e = ap (λ (x : Body). canon (body_of x)) e ∙ list_canon (kind_of k) (items_in o) ds
+
+list_deep : (k : Kind) (o : Option (List Element)) (ds : Option (List ℤ)) → depth (array_with k o ds) ≡ suc (list_depth o)
+list_deep k None ds = refl
+list_deep k (Some es) ds = refl
+
+pub array_depth : (b : Body) (k : code_kind.Kind) (o : Option (Vec code.Element)) (ds : Option (List ℤ)) → b ≡ bodies.Array k o ds → depth (body_of b) ≡ suc (list_depth (items_in o))
+array_depth b k o ds e = ap (λ (x : Body). depth (body_of x)) e ∙ list_deep (kind_of k) (items_in o) ds
+
+-- ---- an array is put in three steps
+
+module _ (b : Body) (k : code_kind.Kind) (o : Option (Vec code.Element)) (ds : Option (List ℤ)) (is : b ≡ bodies.Array k o ds) (v : Variant) (view : body_of b ≡ v) (m : ℕ) (head : m ≡ head_of (kind_of k) (is_some ds) true) where
+  whole : canon v ≡ (head_of (kind_of k) (is_some ds) true ∷ []) ++ (canon_of_list (items_in o) ++ shape_canon ds)
+  whole = ap canon (sym view) ∙ array_canon b k o ds is
+
+  first_put : (old between : List ℕ) → between ≡ old ++ m ∷ [] → between ≡ old ++ (head_of (kind_of k) (is_some ds) true ∷ [])
+  first_put old between e = e ∙ ap (λ (n : ℕ). old ++ n ∷ []) head
+
+  pub cut_in_list : (old between new : List ℕ) → between ≡ old ++ m ∷ [] → AppendsPart between new (canon_of_list (items_in o)) → AppendsPart old new (canon v)
+  cut_in_list old between new e p =
+      subst (λ (l : List ℕ). AppendsPart old new l) (sym whole)
+      (later_part old between new (head_of (kind_of k) (is_some ds) true ∷ []) (canon_of_list (items_in o) ++ shape_canon ds) (first_put old between e) (first_part between new (canon_of_list (items_in o)) (shape_canon ds) p))
+
+  pub cut_in_shape : (old between after new : List ℕ) → between ≡ old ++ m ∷ [] → after ≡ between ++ canon_of_list (items_in o) → AppendsPart after new (shape_canon ds) → AppendsPart old new (canon v)
+  cut_in_shape old between after new e f p =
+      subst (λ (l : List ℕ). AppendsPart old new l) (sym whole)
+      (later_part old between new (head_of (kind_of k) (is_some ds) true ∷ []) (canon_of_list (items_in o) ++ shape_canon ds) (first_put old between e) (later_part between after new (canon_of_list (items_in o)) (shape_canon ds) f p))
+
+  pub all_put : (old between after new : List ℕ) → between ≡ old ++ m ∷ [] → after ≡ between ++ canon_of_list (items_in o) → new ≡ after ++ shape_canon ds → new ≡ old ++ canon v
+  all_put old between after new e f h =
+      let one : List ℕ = head_of (kind_of k) (is_some ds) true ∷ [] in
+      let two : List ℕ = canon_of_list (items_in o) in
+      let three : List ℕ = shape_canon ds in
+      let regrouped : ((old ++ one) ++ two) ++ three ≡ old ++ (one ++ (two ++ three)) = simp append_assoc in
+      h ∙ ap (λ (l : List ℕ). l ++ three) (f ∙ ap (λ (l : List ℕ). l ++ two) (first_put old between e)) ∙ regrouped ∙ ap (λ (l : List ℕ). old ++ l) (sym whole)

@@ -1,0 +1,96 @@
+-- One level of variants and data values in memory, as the values that they stand for.
+use Rattle.std.specs.Prelude.{◌≡◌, ℕ, ℤ, List, Option, Some, None, option_map, map}
+use Rattle.std.specs.Global.{Vec, Box}
+use Rattle.ua_variant.specs.declared.stamps.Stamps.{Stamps}
+use Rattle.ua_variant.specs.declared.kind.Kind.{Kind}
+use Rattle.ua_variant.specs.declared.kind.Kind.TheVariants as kinds
+use Rattle.ua_variant.specs.declared.variant.Element.{Element}
+use Rattle.ua_variant.specs.declared.variant.Element.TheVariants as elements
+use Rattle.ua_variant.specs.declared.variant.Body.{Body}
+use Rattle.ua_variant.specs.declared.variant.Body.TheVariants as bodies
+use Rattle.ua_variant.specs.declared.variant.Variant.TheInside as outer
+use Rattle.ua_variant.specs.declared.variant.DataValue.TheInside as data_outer
+use Rattle.ua_variant.specs.Kinds as spec_kinds
+use Rattle.ua_variant.specs.Kinds.{plain}
+use Rattle.ua_variant.specs.Values as spec
+use Rattle.ua_variant.specs.Values.{leaf}
+use Rattle.ua_variant.specs.Spelling.{IsVariant, IsDataValue}
+
+abbrev pub kind_of : Kind → spec_kinds.Kind
+kind_of kinds.Boolean = plain spec_kinds.boolean
+kind_of kinds.SByte = plain spec_kinds.sbyte
+kind_of kinds.Byte = plain spec_kinds.byte
+kind_of kinds.Int16 = plain spec_kinds.int16
+kind_of kinds.UInt16 = plain spec_kinds.uint16
+kind_of kinds.Int32 = plain spec_kinds.int32
+kind_of kinds.UInt32 = plain spec_kinds.uint32
+kind_of kinds.Int64 = plain spec_kinds.int64
+kind_of kinds.UInt64 = plain spec_kinds.uint64
+kind_of kinds.Float = plain spec_kinds.float
+kind_of kinds.Double = plain spec_kinds.double
+kind_of kinds.String = plain spec_kinds.string
+kind_of kinds.DateTime = plain spec_kinds.date_time
+kind_of kinds.Guid = plain spec_kinds.guid
+kind_of kinds.ByteString = plain spec_kinds.byte_string
+kind_of kinds.XmlElement = plain spec_kinds.xml_element
+kind_of kinds.NodeId = plain spec_kinds.node_id
+kind_of kinds.ExpandedNodeId = plain spec_kinds.expanded_node_id
+kind_of kinds.StatusCode = plain spec_kinds.status_code
+kind_of kinds.QualifiedName = plain spec_kinds.qualified_name
+kind_of kinds.LocalizedText = plain spec_kinds.localized_text
+kind_of kinds.ExtensionObject = plain spec_kinds.extension_object
+kind_of kinds.DataValue = spec_kinds.data_kind
+kind_of kinds.Variant = spec_kinds.variant_kind
+kind_of kinds.DiagnosticInfo = spec_kinds.info_kind
+
+abbrev pub element : Element → spec.Element
+element (elements.Boolean v) = leaf spec_kinds.boolean v
+element (elements.SByte v) = leaf spec_kinds.sbyte v
+element (elements.Byte v) = leaf spec_kinds.byte v
+element (elements.Int16 v) = leaf spec_kinds.int16 v
+element (elements.UInt16 v) = leaf spec_kinds.uint16 v
+element (elements.Int32 v) = leaf spec_kinds.int32 v
+element (elements.UInt32 v) = leaf spec_kinds.uint32 v
+element (elements.Int64 v) = leaf spec_kinds.int64 v
+element (elements.UInt64 v) = leaf spec_kinds.uint64 v
+element (elements.Float v) = leaf spec_kinds.float v
+element (elements.Double v) = leaf spec_kinds.double v
+element (elements.String v) = leaf spec_kinds.string v
+element (elements.DateTime v) = leaf spec_kinds.date_time v
+element (elements.Guid v) = leaf spec_kinds.guid v
+element (elements.ByteString v) = leaf spec_kinds.byte_string v
+element (elements.XmlElement v) = leaf spec_kinds.xml_element v
+element (elements.NodeId v) = leaf spec_kinds.node_id v
+element (elements.ExpandedNodeId v) = leaf spec_kinds.expanded_node_id v
+element (elements.StatusCode v) = leaf spec_kinds.status_code v
+element (elements.QualifiedName v) = leaf spec_kinds.qualified_name v
+element (elements.LocalizedText v) = leaf spec_kinds.localized_text v
+element (elements.ExtensionObject v) = leaf spec_kinds.extension_object v
+element (elements.DataValue d) = spec.data_value d.value
+element (elements.Variant v) = spec.variant v.value
+element (elements.DiagnosticInfo i) = spec.info i
+
+-- the elements of an array, or null
+abbrev pub items_in : Option (Vec Element) → Option (List spec.Element)
+items_in o = option_map (λ v. map element v.items) o
+
+abbrev pub body_of : Body → spec.Variant
+body_of bodies.Null = spec.null
+body_of (bodies.One e) = spec.one (element e)
+body_of (bodies.Array k o ds) = spec.array_with (kind_of k) (items_in o) ds
+
+abbrev pub data_with : Option (Box spec.Variant) → Stamps → spec.DataValue
+data_with None s = spec.without s
+data_with (Some v) s = spec.with_value v.value s
+
+abbrev pub data_of : data_outer.Inside → spec.DataValue
+data_of a = data_with a.value a.stamps
+
+-- the depth that is kept beside
+pub record IsKept (a : outer.Inside) : Type 0 where
+  pub value : IsVariant (body_of a.body)
+  pub levels : a.levels ≡ spec.depth (body_of a.body)
+
+pub record IsDataKept (a : data_outer.Inside) : Type 0 where
+  pub value : IsDataValue (data_of a)
+  pub levels : a.levels ≡ spec.data_depth (data_of a)

@@ -1,0 +1,119 @@
+//! Copies of variants and data values.
+
+ghost use Rattle.std.specs.Prelude.{◌≡◌, map, IfOk};
+ghost use Rattle.ua_variant.specs.View.{element, items_in};
+
+use crate::variant::{Body, DataValue, Element, Variant};
+use ua_value::{NoMemory, Wire};
+
+#[cycle(copy)]
+pub(crate) fn copy_variant(value: &Variant) -> Result<Variant, NoMemory>
+    ensures { IfOk result (λ v. v ≡ value.now) }
+{
+    let levels = value.levels;
+    match &value.body {
+        Body::Null => Ok(Variant {
+            levels,
+            body: Body::Null,
+        }),
+        Body::One(one) => {
+            let one = copy_element(one)?;
+            Ok(Variant {
+                levels,
+                body: Body::One(one),
+            })
+        }
+        Body::Array(kind, items, lengths) => {
+            let items = copy_list(items)?;
+            let lengths = lengths.copy()?;
+            Ok(Variant {
+                levels,
+                body: Body::Array(*kind, items, lengths),
+            })
+        }
+    }
+}
+
+#[cycle(copy)]
+fn copy_list(items: &Option<Vec<Element>>) -> Result<Option<Vec<Element>>, NoMemory>
+    ensures { IfOk result (λ v. items_in v ≡ items_in items.now) }
+{
+    match items {
+        None => Ok(None),
+        Some(items) => Ok(Some(copy_items(items)?)),
+    }
+}
+
+#[cycle(copy)]
+fn copy_items(items: &Vec<Element>) -> Result<Vec<Element>, NoMemory>
+    ensures { IfOk result (λ v. map element v.items ≡ map element items.now.items) }
+{
+    let mut copies = Vec::with_capacity(*items.allocator(), items.len())?;
+    for item in items {
+        copies.push(copy_element(item)?)?;
+    }
+    Ok(copies)
+}
+
+#[cycle(copy)]
+fn copy_element(item: &Element) -> Result<Element, NoMemory>
+    ensures { IfOk result (λ e. element e ≡ element item.now) }
+{
+    match item {
+        Element::Boolean(value) => Ok(Element::Boolean(value.copy()?)),
+        Element::SByte(value) => Ok(Element::SByte(value.copy()?)),
+        Element::Byte(value) => Ok(Element::Byte(value.copy()?)),
+        Element::Int16(value) => Ok(Element::Int16(value.copy()?)),
+        Element::UInt16(value) => Ok(Element::UInt16(value.copy()?)),
+        Element::Int32(value) => Ok(Element::Int32(value.copy()?)),
+        Element::UInt32(value) => Ok(Element::UInt32(value.copy()?)),
+        Element::Int64(value) => Ok(Element::Int64(value.copy()?)),
+        Element::UInt64(value) => Ok(Element::UInt64(value.copy()?)),
+        Element::Float(value) => Ok(Element::Float(value.copy()?)),
+        Element::Double(value) => Ok(Element::Double(value.copy()?)),
+        Element::String(value) => Ok(Element::String(value.copy()?)),
+        Element::DateTime(value) => Ok(Element::DateTime(value.copy()?)),
+        Element::Guid(value) => Ok(Element::Guid(value.copy()?)),
+        Element::ByteString(value) => Ok(Element::ByteString(value.copy()?)),
+        Element::XmlElement(value) => Ok(Element::XmlElement(value.copy()?)),
+        Element::NodeId(value) => Ok(Element::NodeId(value.copy()?)),
+        Element::ExpandedNodeId(value) => Ok(Element::ExpandedNodeId(value.copy()?)),
+        Element::StatusCode(value) => Ok(Element::StatusCode(value.copy()?)),
+        Element::QualifiedName(value) => Ok(Element::QualifiedName(value.copy()?)),
+        Element::LocalizedText(value) => Ok(Element::LocalizedText(value.copy()?)),
+        Element::ExtensionObject(value) => Ok(Element::ExtensionObject(value.copy()?)),
+        Element::DataValue(value) => {
+            let copy = copy_data(value)?;
+            Ok(Element::DataValue(Box::new(*Box::allocator(value), copy)?))
+        }
+        Element::Variant(value) => {
+            let copy = copy_variant(value)?;
+            Ok(Element::Variant(Box::new(*Box::allocator(value), copy)?))
+        }
+        Element::DiagnosticInfo(value) => Ok(Element::DiagnosticInfo(value.copied()?)),
+    }
+}
+
+#[cycle(copy)]
+pub(crate) fn copy_data(value: &DataValue) -> Result<DataValue, NoMemory>
+    ensures { IfOk result (λ v. v ≡ value.now) }
+{
+    let levels = value.levels;
+    let stamps = value.stamps.copy()?;
+    match &value.value {
+        None => Ok(DataValue {
+            levels,
+            stamps,
+            value: None,
+        }),
+        Some(inner) => {
+            let copy = copy_variant(inner)?;
+            let copy = Box::new(*Box::allocator(inner), copy)?;
+            Ok(DataValue {
+                levels,
+                stamps,
+                value: Some(copy),
+            })
+        }
+    }
+}

@@ -1,0 +1,207 @@
+//! What stands in a Variant.
+
+ghost use Rattle.std.specs.Prelude.{◌≡◌, ◌≤◌, length, map, IfOk};
+ghost use Rattle.ua_value.specs.Format.{Gives, input_limit};
+ghost use Rattle.ua_variant.specs.Kinds.{plain};
+ghost use Rattle.ua_variant.specs.Values.{kind, element_depth, deepest};
+ghost use Rattle.ua_variant.specs.Spelling.{IsSoundElement};
+ghost use Rattle.ua_variant.specs.Reading.{leaves};
+ghost use Rattle.ua_variant.specs.View.{kind_of, element};
+
+use crate::diagnostic::DiagnosticInfo;
+use crate::extension::ExtensionObject;
+use crate::kind::Kind;
+use crate::variant::{DataValue, Element, Variant};
+use std::alloc::Global;
+use ua_value::{
+    DateTime, DoubleBits, ExpandedNodeId, FloatBits, Guid, LocalizedText, NodeId, QualifiedName,
+    ReadFault, StatusCode, UaBytes, UaString, Wire, XmlElement,
+};
+
+impl Element {
+    /// The kind of the value.
+    pub fn kind(&self) -> Kind
+        ensures { kind_of result ≡ kind (element self.now) }
+    {
+        match self {
+            Element::Boolean(_) => Kind::Boolean,
+            Element::SByte(_) => Kind::SByte,
+            Element::Byte(_) => Kind::Byte,
+            Element::Int16(_) => Kind::Int16,
+            Element::UInt16(_) => Kind::UInt16,
+            Element::Int32(_) => Kind::Int32,
+            Element::UInt32(_) => Kind::UInt32,
+            Element::Int64(_) => Kind::Int64,
+            Element::UInt64(_) => Kind::UInt64,
+            Element::Float(_) => Kind::Float,
+            Element::Double(_) => Kind::Double,
+            Element::String(_) => Kind::String,
+            Element::DateTime(_) => Kind::DateTime,
+            Element::Guid(_) => Kind::Guid,
+            Element::ByteString(_) => Kind::ByteString,
+            Element::XmlElement(_) => Kind::XmlElement,
+            Element::NodeId(_) => Kind::NodeId,
+            Element::ExpandedNodeId(_) => Kind::ExpandedNodeId,
+            Element::StatusCode(_) => Kind::StatusCode,
+            Element::QualifiedName(_) => Kind::QualifiedName,
+            Element::LocalizedText(_) => Kind::LocalizedText,
+            Element::ExtensionObject(_) => Kind::ExtensionObject,
+            Element::DataValue(_) => Kind::DataValue,
+            Element::Variant(_) => Kind::Variant,
+            Element::DiagnosticInfo(_) => Kind::DiagnosticInfo,
+        }
+    }
+
+    /// How deep the value is nested: 0 where it is no Variant, DataValue or DiagnosticInfo.
+    pub fn depth(&self) -> u8
+        ensures depth { result ≡ element_depth (element self.now) }
+        ensures most { result ≤ deepest }
+        ensures value { IsSoundElement (element self.now) }
+    {
+        match self {
+            Element::Boolean(value) => flat(value),
+            Element::SByte(value) => flat(value),
+            Element::Byte(value) => flat(value),
+            Element::Int16(value) => flat(value),
+            Element::UInt16(value) => flat(value),
+            Element::Int32(value) => flat(value),
+            Element::UInt32(value) => flat(value),
+            Element::Int64(value) => flat(value),
+            Element::UInt64(value) => flat(value),
+            Element::Float(value) => flat(value),
+            Element::Double(value) => flat(value),
+            Element::String(value) => flat(value),
+            Element::DateTime(value) => flat(value),
+            Element::Guid(value) => flat(value),
+            Element::ByteString(value) => flat(value),
+            Element::XmlElement(value) => flat(value),
+            Element::NodeId(value) => flat(value),
+            Element::ExpandedNodeId(value) => flat(value),
+            Element::StatusCode(value) => flat(value),
+            Element::QualifiedName(value) => flat(value),
+            Element::LocalizedText(value) => flat(value),
+            Element::ExtensionObject(value) => flat(value),
+            Element::DataValue(value) => {
+                let value: &DataValue = value;
+                value.levels
+            }
+            Element::Variant(value) => {
+                let value: &Variant = value;
+                value.levels
+            }
+            Element::DiagnosticInfo(value) => value.depth(),
+        }
+    }
+}
+
+/// The depth of a plain value.
+fn flat<T: Wire>(value: &T) -> u8
+    ensures zero { result ≡ 0 }
+    ensures value { T.format.IsValue value.now }
+{
+    let _len = value.len();
+    0
+}
+
+/// The value of a plain kind at the front, and what follows it; none of another kind.
+pub(crate) fn leaf_front(
+    alloc: Global,
+    kind: Kind,
+    input: &[u8],
+) -> Result<(Element, &[u8]), ReadFault>
+    requires { length input.now ≤ input_limit }
+    ensures gives { Gives (λ x. (element x.0, x.1.now)) result ((leaves (kind_of kind)).front input.now) }
+    ensures shorter { IfOk result (λ x. length x.1.now ≤ length input.now) }
+{
+    match kind {
+        Kind::Boolean => {
+            let (value, rest) = bool::read_front(alloc, input)?;
+            Ok((Element::Boolean(value), rest))
+        }
+        Kind::SByte => {
+            let (value, rest) = i8::read_front(alloc, input)?;
+            Ok((Element::SByte(value), rest))
+        }
+        Kind::Byte => {
+            let (value, rest) = u8::read_front(alloc, input)?;
+            Ok((Element::Byte(value), rest))
+        }
+        Kind::Int16 => {
+            let (value, rest) = i16::read_front(alloc, input)?;
+            Ok((Element::Int16(value), rest))
+        }
+        Kind::UInt16 => {
+            let (value, rest) = u16::read_front(alloc, input)?;
+            Ok((Element::UInt16(value), rest))
+        }
+        Kind::Int32 => {
+            let (value, rest) = i32::read_front(alloc, input)?;
+            Ok((Element::Int32(value), rest))
+        }
+        Kind::UInt32 => {
+            let (value, rest) = u32::read_front(alloc, input)?;
+            Ok((Element::UInt32(value), rest))
+        }
+        Kind::Int64 => {
+            let (value, rest) = i64::read_front(alloc, input)?;
+            Ok((Element::Int64(value), rest))
+        }
+        Kind::UInt64 => {
+            let (value, rest) = u64::read_front(alloc, input)?;
+            Ok((Element::UInt64(value), rest))
+        }
+        Kind::Float => {
+            let (value, rest) = FloatBits::read_front(alloc, input)?;
+            Ok((Element::Float(value), rest))
+        }
+        Kind::Double => {
+            let (value, rest) = DoubleBits::read_front(alloc, input)?;
+            Ok((Element::Double(value), rest))
+        }
+        Kind::String => {
+            let (value, rest) = UaString::read_front(alloc, input)?;
+            Ok((Element::String(value), rest))
+        }
+        Kind::DateTime => {
+            let (value, rest) = DateTime::read_front(alloc, input)?;
+            Ok((Element::DateTime(value), rest))
+        }
+        Kind::Guid => {
+            let (value, rest) = Guid::read_front(alloc, input)?;
+            Ok((Element::Guid(value), rest))
+        }
+        Kind::ByteString => {
+            let (value, rest) = UaBytes::read_front(alloc, input)?;
+            Ok((Element::ByteString(value), rest))
+        }
+        Kind::XmlElement => {
+            let (value, rest) = XmlElement::read_front(alloc, input)?;
+            Ok((Element::XmlElement(value), rest))
+        }
+        Kind::NodeId => {
+            let (value, rest) = NodeId::read_front(alloc, input)?;
+            Ok((Element::NodeId(value), rest))
+        }
+        Kind::ExpandedNodeId => {
+            let (value, rest) = ExpandedNodeId::read_front(alloc, input)?;
+            Ok((Element::ExpandedNodeId(value), rest))
+        }
+        Kind::StatusCode => {
+            let (value, rest) = StatusCode::read_front(alloc, input)?;
+            Ok((Element::StatusCode(value), rest))
+        }
+        Kind::QualifiedName => {
+            let (value, rest) = QualifiedName::read_front(alloc, input)?;
+            Ok((Element::QualifiedName(value), rest))
+        }
+        Kind::LocalizedText => {
+            let (value, rest) = LocalizedText::read_front(alloc, input)?;
+            Ok((Element::LocalizedText(value), rest))
+        }
+        Kind::ExtensionObject => {
+            let (value, rest) = ExtensionObject::read_front(alloc, input)?;
+            Ok((Element::ExtensionObject(value), rest))
+        }
+        Kind::DataValue | Kind::Variant | Kind::DiagnosticInfo => Err(ReadFault::Refused),
+    }
+}

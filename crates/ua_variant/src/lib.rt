@@ -1,0 +1,29 @@
+//! The built-in types of OPC UA that hold others, and their spellings as bytes.
+#![tactic(auto)]
+
+mod contents;
+mod copying;
+mod depth;
+mod diagnostic;
+mod diagnostic_parts;
+mod element;
+mod extension;
+mod fault;
+mod flagged;
+mod kind;
+mod making;
+mod parts;
+mod picoseconds;
+mod reading;
+mod shape;
+mod stamps;
+mod variant;
+mod wire;
+mod writing;
+
+pub use diagnostic::DiagnosticInfo;
+pub use diagnostic_parts::DiagnosticParts;
+pub use extension::{ExtensionBody, ExtensionObject};
+pub use fault::VariantFault;
+pub use kind::Kind;
+pub use variant::{DataValue, Element, Variant};

@@ -1,0 +1,253 @@
+//! Reading variants and data values from the front of bytes, to a depth.
+
+ghost use Rattle.std.specs.Prelude.{◌≡◌, ◌≤◌, ◌<◌, ◌^◌, length, map, IfOk};
+ghost use Rattle.ua_value.specs.Format.{Gives, input_limit};
+ghost use Rattle.ua_value.specs.Array.{items_at};
+ghost use Rattle.ua_variant.specs.Values.{deepest, count_of};
+ghost use Rattle.ua_variant.specs.Chains.{list};
+ghost use Rattle.ua_variant.specs.Reading.{singles, arrays, behind_head, behind_mask, within, data_within, elements_within};
+ghost use Rattle.ua_variant.specs.View.{kind_of, element, items_in, body_of, data_with};
+
+use crate::diagnostic::DiagnosticInfo;
+use crate::element::leaf_front;
+use crate::kind::Kind;
+use crate::shape::shape_front;
+use crate::stamps::Stamps;
+use crate::variant::{Body, DataValue, Element, Variant};
+use std::alloc::Global;
+use ua_value::{ReadFault, Wire};
+
+/// The greatest number of elements of an array.
+const LONGEST: u32 = 2147483647;
+
+/// The Variant at the front that is at most so deep, and what follows it.
+#[cycle(read)]
+pub(crate) fn variant_within(
+    alloc: Global,
+    input: &[u8],
+    allowance: u8,
+) -> Result<(Variant, &[u8]), ReadFault>
+    requires short { length input.now ≤ input_limit }
+    requires allowed { allowance ≤ deepest }
+    ensures gives { Gives (λ x. (x.0, x.1.now)) result ((within allowance).front input.now) }
+    ensures shorter { IfOk result (λ x. length x.1.now ≤ length input.now) }
+{
+    if allowance == 0 {
+        return Err(ReadFault::Refused);
+    }
+    let [head, rest @ ..] = input else {
+        return Err(ReadFault::Refused);
+    };
+    let (body, rest) = body_behind(alloc, *head, rest, allowance - 1)?;
+    Ok((Variant::of(body), rest))
+}
+
+/// What follows the first byte of a Variant whose elements are at most so deep.
+#[cycle(read)]
+fn body_behind(
+    alloc: Global,
+    head: u8,
+    input: &[u8],
+    allowance: u8,
+) -> Result<(Body, &[u8]), ReadFault>
+    requires short { length input.now ≤ input_limit }
+    requires allowed { allowance < deepest }
+    ensures gives { Gives (λ x. (body_of x.0, x.1.now)) result ((behind_head (elements_within allowance) head).front input.now) }
+    ensures shorter { IfOk result (λ x. length x.1.now ≤ length input.now) }
+{
+    if head == 0 {
+        return Ok((Body::Null, input));
+    }
+    let Some(kind) = Kind::named(head & 0x3f) else {
+        return Err(ReadFault::Refused);
+    };
+    let flagged = head & 0x40 != 0;
+    if head & 0x80 != 0 {
+        return array_within(alloc, kind, flagged, input, allowance);
+    }
+    if flagged {
+        return Err(ReadFault::Refused);
+    }
+    single_within(alloc, kind, input, allowance)
+}
+
+/// A single value.
+#[cycle(read)]
+fn single_within(
+    alloc: Global,
+    kind: Kind,
+    input: &[u8],
+    allowance: u8,
+) -> Result<(Body, &[u8]), ReadFault>
+    requires short { length input.now ≤ input_limit }
+    requires allowed { allowance < deepest }
+    ensures gives { Gives (λ x. (body_of x.0, x.1.now)) result ((singles (elements_within allowance) (kind_of kind)).front input.now) }
+    ensures shorter { IfOk result (λ x. length x.1.now ≤ length input.now) }
+{
+    if matches!(kind, Kind::Variant) {
+        return Err(ReadFault::Refused);
+    }
+    let (one, rest) = element_within(alloc, kind, input, allowance)?;
+    Ok((Body::One(one), rest))
+}
+
+/// An array and its dimensions.
+#[cycle(read)]
+fn array_within(
+    alloc: Global,
+    kind: Kind,
+    flagged: bool,
+    input: &[u8],
+    allowance: u8,
+) -> Result<(Body, &[u8]), ReadFault>
+    requires short { length input.now ≤ input_limit }
+    requires allowed { allowance < deepest }
+    ensures gives { Gives (λ x. (body_of x.0, x.1.now)) result ((arrays (elements_within allowance) (kind_of kind) flagged).front input.now) }
+    ensures shorter { IfOk result (λ x. length x.1.now ≤ length input.now) }
+{
+    let (items, rest) = list_within(alloc, kind, input, allowance)?;
+    let count = count_in(&items);
+    let (lengths, rest) = shape_front(alloc, flagged, count, rest)?;
+    Ok((Body::Array(kind, items, lengths), rest))
+}
+
+/// How many elements there are; none where the array is null.
+pub(crate) fn count_in(items: &Option<Vec<Element>>) -> usize
+    ensures { result ≡ count_of (items_in items.now) }
+{
+    match items {
+        None => 0,
+        Some(items) => items.len(),
+    }
+}
+
+/// A count and as many elements, or null.
+#[cycle(read)]
+fn list_within(
+    alloc: Global,
+    kind: Kind,
+    input: &[u8],
+    allowance: u8,
+) -> Result<(Option<Vec<Element>>, &[u8]), ReadFault>
+    requires short { length input.now ≤ input_limit }
+    requires allowed { allowance < deepest }
+    ensures gives { Gives (λ x. (items_in x.0, x.1.now)) result ((list (elements_within allowance (kind_of kind))).front input.now) }
+    ensures shorter { IfOk result (λ x. length x.1.now ≤ length input.now) }
+    ensures few { IfOk result (λ x. count_of (items_in x.0) < 2 ^ 31) }
+{
+    let (count, rest) = u32::read_front(alloc, input)?;
+    if count == u32::MAX {
+        return Ok((None, rest));
+    }
+    if count > LONGEST {
+        return Err(ReadFault::Refused);
+    }
+    if rest.len() < count as usize {
+        return Err(ReadFault::Refused);
+    }
+    let (items, rest) = each_within(alloc, kind, count, rest, allowance)?;
+    Ok((Some(items), rest))
+}
+
+/// As many elements as the count says, one after another.
+#[cycle(read)]
+fn each_within(
+    alloc: Global,
+    kind: Kind,
+    count: u32,
+    input: &[u8],
+    allowance: u8,
+) -> Result<(Vec<Element>, &[u8]), ReadFault>
+    requires short { length input.now ≤ input_limit }
+    requires allowed { allowance < deepest }
+    ensures gives { Gives (λ x. (map element x.0.items, x.1.now)) result (items_at (elements_within allowance (kind_of kind)) count input.now) }
+    ensures shorter { IfOk result (λ x. length x.1.now ≤ length input.now) }
+    ensures counted { IfOk result (λ x. length x.0.items ≡ count) }
+{
+    let mut items = Vec::new(alloc);
+    let mut rest = input;
+    for _ in 0..count {
+        let (item, after) = element_within(alloc, kind, rest, allowance)?;
+        items.push(item)?;
+        rest = after;
+    }
+    Ok((items, rest))
+}
+
+/// A value of the kind that is at most so deep.
+#[cycle(read)]
+fn element_within(
+    alloc: Global,
+    kind: Kind,
+    input: &[u8],
+    allowance: u8,
+) -> Result<(Element, &[u8]), ReadFault>
+    requires short { length input.now ≤ input_limit }
+    requires allowed { allowance < deepest }
+    ensures gives { Gives (λ x. (element x.0, x.1.now)) result ((elements_within allowance (kind_of kind)).front input.now) }
+    ensures shorter { IfOk result (λ x. length x.1.now ≤ length input.now) }
+{
+    match kind {
+        Kind::Variant => {
+            let (value, rest) = variant_within(alloc, input, allowance)?;
+            Ok((Element::Variant(Box::new(alloc, value)?), rest))
+        }
+        Kind::DataValue => {
+            let (value, rest) = data_within(alloc, input, allowance)?;
+            Ok((Element::DataValue(Box::new(alloc, value)?), rest))
+        }
+        Kind::DiagnosticInfo => {
+            let (value, rest) = DiagnosticInfo::read_within(alloc, input, allowance)?;
+            Ok((Element::DiagnosticInfo(value), rest))
+        }
+        _ => leaf_front(alloc, kind, input),
+    }
+}
+
+/// The DataValue at the front that is at most so deep, and what follows it.
+#[cycle(read)]
+pub(crate) fn data_within(
+    alloc: Global,
+    input: &[u8],
+    allowance: u8,
+) -> Result<(DataValue, &[u8]), ReadFault>
+    requires short { length input.now ≤ input_limit }
+    requires allowed { allowance ≤ deepest }
+    ensures gives { Gives (λ x. (x.0, x.1.now)) result ((data_within allowance).front input.now) }
+    ensures shorter { IfOk result (λ x. length x.1.now ≤ length input.now) }
+{
+    if allowance == 0 {
+        return Err(ReadFault::Refused);
+    }
+    let [mask, rest @ ..] = input else {
+        return Err(ReadFault::Refused);
+    };
+    let ((value, stamps), rest) = parts_behind(alloc, *mask, rest, allowance - 1)?;
+    Ok((DataValue::of(value, stamps), rest))
+}
+
+/// What follows the first byte of a DataValue whose value is at most so deep.
+#[cycle(read)]
+fn parts_behind(
+    alloc: Global,
+    mask: u8,
+    input: &[u8],
+    allowance: u8,
+) -> Result<((Option<Box<Variant>>, Stamps), &[u8]), ReadFault>
+    requires short { length input.now ≤ input_limit }
+    requires allowed { allowance < deepest }
+    ensures gives { Gives (λ x. (data_with x.0.0 x.0.1, x.1.now)) result ((behind_mask (within allowance) mask).front input.now) }
+    ensures shorter { IfOk result (λ x. length x.1.now ≤ length input.now) }
+{
+    if mask & 0xc0 != 0 {
+        return Err(ReadFault::Refused);
+    }
+    if mask & 0x01 == 0 {
+        let (stamps, rest) = Stamps::read_behind(alloc, mask, input)?;
+        return Ok(((None, stamps), rest));
+    }
+    let (value, rest) = variant_within(alloc, input, allowance)?;
+    let value = Box::new(alloc, value)?;
+    let (stamps, rest) = Stamps::read_behind(alloc, mask, rest)?;
+    Ok(((Some(value), stamps), rest))
+}

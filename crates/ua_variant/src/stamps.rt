@@ -1,0 +1,123 @@
+//! What a DataValue says beside its value.
+
+ghost use Rattle.std.specs.Prelude.{◌≡◌, ◌≤◌, ◌<◌, ◌+◌, ◌++◌, length, option_map, IfOk, IfSome, OnOk, OnErr};
+ghost use Rattle.ua_value.specs.Format.{AppendsPart, Gives, input_limit};
+ghost use Rattle.ua_value.specs.Localized.{flag};
+ghost use Rattle.ua_variant.specs.Stamps.{stamps};
+
+use crate::flagged::{Kept, Then, copy_kept, kept_len, read_kept};
+use crate::picoseconds::Picoseconds;
+use std::alloc::Global;
+use ua_value::{DateTime, NoMemory, Parts, ReadFault, Sink, StatusCode, Wire};
+
+/// The parts of a DataValue beside its value, in the order of their bytes (OPC 10000-6 5.2.2.17).
+#[derive(Debug, Drop)]
+pub(crate) struct Stamps {
+    pub(crate) status: Option<StatusCode>,
+    pub(crate) source_timestamp: Option<DateTime>,
+    pub(crate) source_picoseconds: Option<Picoseconds>,
+    pub(crate) server_timestamp: Option<DateTime>,
+    pub(crate) server_picoseconds: Option<Picoseconds>,
+}
+
+#[tactic(auto, unfolding(crate::specs::Stamps::stamps))]
+impl Stamps {
+    /// The parts that the mask flags.
+    pub(crate) fn read_behind(
+        alloc: Global,
+        mask: u8,
+        input: &[u8],
+    ) -> Result<(Stamps, &[u8]), ReadFault>
+        requires { length input.now ≤ input_limit }
+        ensures gives { Gives (λ x. (x.0, x.1.now)) result ((stamps.behind mask).front input.now) }
+        ensures shorter { IfOk result (λ x. length x.1.now ≤ length input.now) }
+    {
+        let (status, rest) = read_kept(alloc, mask & 0x02 != 0, input)?;
+        let (source_timestamp, rest) = read_kept(alloc, mask & 0x04 != 0, rest)?;
+        let (source_picoseconds, rest) = read_kept(alloc, mask & 0x10 != 0, rest)?;
+        let (server_timestamp, rest) = read_kept(alloc, mask & 0x08 != 0, rest)?;
+        let (server_picoseconds, rest) = read_kept(alloc, mask & 0x20 != 0, rest)?;
+        Ok((
+            Stamps {
+                status,
+                source_timestamp,
+                source_picoseconds,
+                server_timestamp,
+                server_picoseconds,
+            },
+            rest,
+        ))
+    }
+
+    pub(crate) fn len(&self) -> u64
+        ensures length { result ≡ length (stamps.canon self.now) }
+        ensures value { stamps.IsValue self.now }
+        ensures bound { result ≤ 24 }
+    {
+        kept_len(&self.status)
+            + kept_len(&self.source_timestamp)
+            + kept_len(&self.source_picoseconds)
+            + kept_len(&self.server_timestamp)
+            + kept_len(&self.server_picoseconds)
+    }
+
+    /// The bits of the parts that are there.
+    pub(crate) fn mask(&self) -> u8
+        ensures mask { result ≡ stamps.mask self.now }
+        ensures below { result < 63 }
+    {
+        bit(self.status.is_some(), 0x02)
+            + bit(self.source_timestamp.is_some(), 0x04)
+            + bit(self.source_picoseconds.is_some(), 0x10)
+            + bit(self.server_timestamp.is_some(), 0x08)
+            + bit(self.server_picoseconds.is_some(), 0x20)
+    }
+
+    /// Puts the canonical spelling, or a beginning of it where memory runs out.
+    pub(crate) fn emit<S: Sink>(&self, out: &mut S) -> Result<(), NoMemory>
+        ensures ok { OnOk result (S.contents out.new ≡ S.contents out.old ++ stamps.canon self.now) }
+        ensures err { OnErr result (AppendsPart (S.contents out.old) (S.contents out.new) (stamps.canon self.now)) }
+    {
+        Then {
+            first: Kept { part: &self.status },
+            others: Then {
+                first: Kept {
+                    part: &self.source_timestamp,
+                },
+                others: Then {
+                    first: Kept {
+                        part: &self.source_picoseconds,
+                    },
+                    others: Then {
+                        first: Kept {
+                            part: &self.server_timestamp,
+                        },
+                        others: Kept {
+                            part: &self.server_picoseconds,
+                        },
+                    },
+                },
+            },
+        }
+        .emit_parts(out)
+    }
+
+    pub(crate) fn copy(&self) -> Result<Stamps, NoMemory>
+        ensures { IfOk result (λ v. v ≡ self.now) }
+    {
+        Ok(Stamps {
+            status: self.status,
+            source_timestamp: self.source_timestamp,
+            source_picoseconds: copy_kept(&self.source_picoseconds)?,
+            server_timestamp: self.server_timestamp,
+            server_picoseconds: copy_kept(&self.server_picoseconds)?,
+        })
+    }
+}
+
+/// The bit where it is set, else nothing.
+pub(crate) fn bit(set: bool, bit: u8) -> u8
+    ensures { result ≡ flag set bit }
+{
+    if set { bit } else { 0 }
+}
