@@ -1,0 +1,13 @@
+pub mod Headers
+pub mod Channel
+pub mod Application
+pub mod Endpoint
+pub mod Discovery
+pub mod Message
+pub mod MessageLaws
+pub mod OtherFields
+pub mod Requests
+pub mod RequestLaws
+pub mod Responses
+pub mod ResponseLaws
+pub mod ChannelMessages

@@ -1,0 +1,259 @@
+//! What stands before the fields of every request and of every response.
+
+ghost use Rattle.ua_service.specs.Headers.{request_header, lawful_request_header, response_header, lawful_response_header, service_fault, lawful_service_fault};
+
+use std::alloc::Global;
+use ua_value::{
+    Array, DateTime, Fields, NoMemory, NodeId, Parts, ReadFault, Sink, StatusCode, UaString, Wire,
+};
+use ua_variant::{DiagnosticInfo, ExtensionObject};
+
+/// What stands before the fields of every request (OPC 10000-4 7.33).
+#[derive(Drop)]
+pub struct RequestHeader {
+    /// The secret id of the session; the null id where there is none.
+    pub authentication_token: NodeId,
+    /// When the client sent the request.
+    pub timestamp: DateTime,
+    /// The client's own number for the request, which the response repeats.
+    pub request_handle: u32,
+    /// The bits of the diagnostics that the client asks for.
+    pub return_diagnostics: u32,
+    /// The entry of the client's audit log; null where there is none.
+    pub audit_entry_id: UaString,
+    /// After how many milliseconds the client stops waiting; 0 for never.
+    pub timeout_hint: u32,
+    /// Reserved; no body.
+    pub additional_header: ExtensionObject,
+}
+
+type RequestHeaderFields = (
+    NodeId,
+    (DateTime, (u32, (u32, (UaString, (u32, ExtensionObject))))),
+);
+
+#[tactic(auto, unfolding(crate::specs::Headers::request_header))]
+impl Wire for RequestHeader {
+    ghost format = { request_header };
+
+    ghost most = { 8589934631 };
+
+    fn len(&self) -> u64 {
+        self.authentication_token.len()
+            + self.timestamp.len()
+            + self.request_handle.len()
+            + self.return_diagnostics.len()
+            + self.audit_entry_id.len()
+            + self.timeout_hint.len()
+            + self.additional_header.len()
+    }
+
+    fn emit<S: Sink>(&self, out: &mut S) -> Result<(), NoMemory> {
+        (
+            &self.authentication_token,
+            (
+                &self.timestamp,
+                (
+                    &self.request_handle,
+                    (
+                        &self.return_diagnostics,
+                        (
+                            &self.audit_entry_id,
+                            (&self.timeout_hint, &self.additional_header),
+                        ),
+                    ),
+                ),
+            ),
+        )
+            .emit_parts(out)
+    }
+
+    fn copy(&self) -> Result<RequestHeader, NoMemory> {
+        Ok(RequestHeader {
+            authentication_token: self.authentication_token.copy()?,
+            timestamp: self.timestamp,
+            request_handle: self.request_handle,
+            return_diagnostics: self.return_diagnostics,
+            audit_entry_id: self.audit_entry_id.copy()?,
+            timeout_hint: self.timeout_hint,
+            additional_header: self.additional_header.copy()?,
+        })
+    }
+
+    fn read_front(alloc: Global, input: &[u8]) -> Result<(RequestHeader, &[u8]), ReadFault> {
+        match RequestHeaderFields::read_fields(alloc, input) {
+            Ok(
+                (
+                    (
+                        authentication_token,
+                        (
+                            timestamp,
+                            (
+                                request_handle,
+                                (
+                                    return_diagnostics,
+                                    (audit_entry_id, (timeout_hint, additional_header)),
+                                ),
+                            ),
+                        ),
+                    ),
+                    rest,
+                ),
+            ) => Ok((
+                RequestHeader {
+                    authentication_token,
+                    timestamp,
+                    request_handle,
+                    return_diagnostics,
+                    audit_entry_id,
+                    timeout_hint,
+                    additional_header,
+                },
+                rest,
+            )),
+            Err(fault) => Err(fault),
+        }
+    }
+
+    ghost laws = { lawful_request_header };
+}
+
+/// What stands before the fields of every response (OPC 10000-4 7.34).
+#[derive(Drop)]
+pub struct ResponseHeader {
+    /// When the server sent the response.
+    pub timestamp: DateTime,
+    /// The handle of the request.
+    pub request_handle: u32,
+    /// How the service as a whole went.
+    pub service_result: StatusCode,
+    /// Diagnostics of the service as a whole.
+    pub service_diagnostics: DiagnosticInfo,
+    /// The texts that diagnostics name by their index.
+    pub string_table: Array<UaString>,
+    /// Reserved; no body.
+    pub additional_header: ExtensionObject,
+}
+
+type ResponseHeaderFields = (
+    DateTime,
+    (
+        u32,
+        (
+            StatusCode,
+            (DiagnosticInfo, (Array<UaString>, ExtensionObject)),
+        ),
+    ),
+);
+
+#[tactic(auto, unfolding(crate::specs::Headers::response_header))]
+impl Wire for ResponseHeader {
+    ghost format = { response_header };
+
+    ghost most = { 1152921723650181502 };
+
+    fn len(&self) -> u64 {
+        self.timestamp.len()
+            + self.request_handle.len()
+            + self.service_result.len()
+            + self.service_diagnostics.len()
+            + self.string_table.len()
+            + self.additional_header.len()
+    }
+
+    fn emit<S: Sink>(&self, out: &mut S) -> Result<(), NoMemory> {
+        (
+            &self.timestamp,
+            (
+                &self.request_handle,
+                (
+                    &self.service_result,
+                    (
+                        &self.service_diagnostics,
+                        (&self.string_table, &self.additional_header),
+                    ),
+                ),
+            ),
+        )
+            .emit_parts(out)
+    }
+
+    fn copy(&self) -> Result<ResponseHeader, NoMemory> {
+        Ok(ResponseHeader {
+            timestamp: self.timestamp,
+            request_handle: self.request_handle,
+            service_result: self.service_result,
+            service_diagnostics: self.service_diagnostics.copy()?,
+            string_table: self.string_table.copy()?,
+            additional_header: self.additional_header.copy()?,
+        })
+    }
+
+    fn read_front(alloc: Global, input: &[u8]) -> Result<(ResponseHeader, &[u8]), ReadFault> {
+        match ResponseHeaderFields::read_fields(alloc, input) {
+            Ok(
+                (
+                    (
+                        timestamp,
+                        (
+                            request_handle,
+                            (
+                                service_result,
+                                (service_diagnostics, (string_table, additional_header)),
+                            ),
+                        ),
+                    ),
+                    rest,
+                ),
+            ) => Ok((
+                ResponseHeader {
+                    timestamp,
+                    request_handle,
+                    service_result,
+                    service_diagnostics,
+                    string_table,
+                    additional_header,
+                },
+                rest,
+            )),
+            Err(fault) => Err(fault),
+        }
+    }
+
+    ghost laws = { lawful_response_header };
+}
+
+/// The response to a request of which the service failed as a whole (OPC 10000-4 7.35).
+#[derive(Drop)]
+pub struct ServiceFault {
+    /// Its result is the status of the failure.
+    pub header: ResponseHeader,
+}
+
+#[tactic(auto, unfolding(crate::specs::Headers::service_fault))]
+impl Wire for ServiceFault {
+    ghost format = { service_fault };
+
+    ghost most = { 1152921723650181502 };
+
+    fn len(&self) -> u64 {
+        self.header.len()
+    }
+
+    fn emit<S: Sink>(&self, out: &mut S) -> Result<(), NoMemory> {
+        self.header.emit(out)
+    }
+
+    fn copy(&self) -> Result<ServiceFault, NoMemory> {
+        Ok(ServiceFault {
+            header: self.header.copy()?,
+        })
+    }
+
+    fn read_front(alloc: Global, input: &[u8]) -> Result<(ServiceFault, &[u8]), ReadFault> {
+        let (header, rest) = ResponseHeader::read_front(alloc, input)?;
+        Ok((ServiceFault { header }, rest))
+    }
+
+    ghost laws = { lawful_service_fault };
+}

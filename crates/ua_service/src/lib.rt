@@ -1,0 +1,27 @@
+//! The bodies of the messages of discovery and of a secure channel (OPC 10000-4 5.5 and 5.6).
+#![tactic(auto)]
+
+mod application;
+mod body;
+mod channel;
+mod discovery;
+mod endpoint;
+mod headers;
+pub mod laws;
+mod other;
+mod read;
+mod request;
+mod response;
+
+pub use application::ApplicationDescription;
+pub use body::Body;
+pub use channel::{CloseRequest, OpenRequest, OpenResponse};
+pub use discovery::{
+    FindServersRequest, FindServersResponse, GetEndpointsRequest, GetEndpointsResponse,
+};
+pub use endpoint::{EndpointDescription, UserTokenPolicy};
+pub use headers::{RequestHeader, ResponseHeader, ServiceFault};
+pub use other::OtherRequest;
+pub use read::{read_close, read_open, read_open_response, read_request, read_response};
+pub use request::Request;
+pub use response::Response;
