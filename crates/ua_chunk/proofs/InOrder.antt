@@ -1,0 +1,75 @@
+-- The bytes of a frame, put one after another.
+use Rattle.std.proofs.Common.{◌≡◌, ℕ, ◌+◌, List, ◌++◌, length, Result, Ok, Err, ap, ◌∙◌, arith, append_assoc}
+use Rattle.std.specs.Prelude.{if◌then◌else◌, is_ok, OnOk}
+use Rattle.std.specs.Int.{w32, to_le_bytes}
+use Rattle.ua_value.specs.Number.{unsigned}
+use Rattle.ua_frame.specs.Layout.{header}
+use Rattle.ua_frame.specs.declared.kind.Kind.{Kind}
+use Rattle.ua_frame.specs.declared.kind.Kind.TheVariants.{Open}
+use Rattle.ua_value.specs.Text.{bytes_of, null}
+use Rattle.ua_chunk.specs.Layout.{chunk_header, open_header, policy_none}
+use Rattle.ua_chunk.specs.Written.{chunk_frame, open_frame}
+
+pub ok_is : {T E : Type 0} (r : Result T E) (new old more target : List ℕ) → new ≡ (if is_ok r then old ++ more else old) → old ++ more ≡ target → OnOk r (new ≡ target)
+ok_is (Ok x) new old more target e h = e ∙ h
+ok_is (Err e) new old more target f h = tt
+
+behind : (o h a b c d body : List ℕ) → (((((o ++ h) ++ a) ++ b) ++ c) ++ d) ++ body ≡ o ++ (h ++ ((a ++ (b ++ (c ++ d))) ++ body))
+behind o h a b c d body = simp append_assoc
+
+abbrev le : ℕ → List ℕ
+le n = to_le_bytes w32 n
+
+-- a frame's type and flag, the number of its fields' bytes, and its fields
+chunk_spelled : (kind : Kind) (flag channel token number id : ℕ) (body : List ℕ)
+    → header kind flag (16 + length body) ++ ((le channel ++ (le token ++ (le number ++ le id))) ++ body) ≡ chunk_frame kind flag channel token number id body
+unfolding chunk_frame chunk_header unsigned
+chunk_spelled kind flag channel token number id body =
+    let fields = (le channel ++ (le token ++ (le number ++ le id))) ++ body in
+    let len : 16 + length body ≡ length fields = omega arith in
+    ap (λ (n : ℕ). header kind flag n ++ fields) len
+
+pub chunk_written : (kind : Kind) (flag channel token number id : ℕ) (body o p q r s t : List ℕ)
+    → p ≡ o ++ header kind flag (16 + length body) → q ≡ p ++ to_le_bytes w32 channel → r ≡ q ++ to_le_bytes w32 token → s ≡ r ++ to_le_bytes w32 number → t ≡ s ++ to_le_bytes w32 id
+    → t ++ body ≡ o ++ chunk_frame kind flag channel token number id body
+chunk_written kind flag channel token number id body o p q r s t e1 e2 e3 e4 e5 =
+    let h = header kind flag (16 + length body) in
+    let two : q ≡ (o ++ h) ++ le channel = e2 ∙ ap (λ (l : List ℕ). l ++ le channel) e1 in
+    let three : r ≡ ((o ++ h) ++ le channel) ++ le token = e3 ∙ ap (λ (l : List ℕ). l ++ le token) two in
+    let four : s ≡ (((o ++ h) ++ le channel) ++ le token) ++ le number = e4 ∙ ap (λ (l : List ℕ). l ++ le number) three in
+    let five : t ≡ ((((o ++ h) ++ le channel) ++ le token) ++ le number) ++ le id = e5 ∙ ap (λ (l : List ℕ). l ++ le id) four in
+    ap (λ (l : List ℕ). l ++ body) five
+    ∙ behind o h (le channel) (le token) (le number) (le id) body
+    ∙ ap (λ (l : List ℕ). o ++ l) (chunk_spelled kind flag channel token number id body)
+
+-- ---- OPN
+
+behind_open : (o h a l p m n c d body : List ℕ)
+    → (((((((o ++ h) ++ a) ++ l) ++ p) ++ (m ++ n)) ++ c) ++ d) ++ body ≡ o ++ (h ++ ((a ++ ((l ++ p) ++ (m ++ (n ++ (c ++ d))))) ++ body))
+behind_open o h a l p m n c d body = simp append_assoc
+
+open_spelled : (channel number id : ℕ) (body : List ℕ)
+    → header Open 70 (71 + length body) ++ ((le channel ++ ((le (length policy_none) ++ policy_none) ++ (null ++ (null ++ (le number ++ le id))))) ++ body) ≡ open_frame channel number id body
+unfolding open_frame open_header unsigned bytes_of
+open_spelled channel number id body =
+    let fields = (le channel ++ ((le (length policy_none) ++ policy_none) ++ (null ++ (null ++ (le number ++ le id))))) ++ body in
+    let len : 71 + length body ≡ length fields = omega arith in
+    ap (λ (n : ℕ). header Open 70 n ++ fields) len
+
+pub open_written : (channel number id : ℕ) (body policy o p q r s t u v : List ℕ) → policy ≡ policy_none
+    → p ≡ o ++ header Open 70 (71 + length body) → q ≡ p ++ to_le_bytes w32 channel → r ≡ q ++ to_le_bytes w32 (length policy) → s ≡ r ++ policy
+    → t ≡ s ++ (null ++ null) → u ≡ t ++ to_le_bytes w32 number → v ≡ u ++ to_le_bytes w32 id
+    → v ++ body ≡ o ++ open_frame channel number id body
+open_written channel number id body policy o p q r s t u v is e1 e2 e3 e4 e5 e6 e7 =
+    let h = header Open 70 (71 + length body) in
+    let l = le (length policy) in
+    let two : q ≡ (o ++ h) ++ le channel = e2 ∙ ap (λ (b : List ℕ). b ++ le channel) e1 in
+    let three : r ≡ ((o ++ h) ++ le channel) ++ l = e3 ∙ ap (λ (b : List ℕ). b ++ l) two in
+    let four : s ≡ (((o ++ h) ++ le channel) ++ l) ++ policy = e4 ∙ ap (λ (b : List ℕ). b ++ policy) three in
+    let five : t ≡ ((((o ++ h) ++ le channel) ++ l) ++ policy) ++ (null ++ null) = e5 ∙ ap (λ (b : List ℕ). b ++ (null ++ null)) four in
+    let six : u ≡ (((((o ++ h) ++ le channel) ++ l) ++ policy) ++ (null ++ null)) ++ le number = e6 ∙ ap (λ (b : List ℕ). b ++ le number) five in
+    let seven : v ≡ ((((((o ++ h) ++ le channel) ++ l) ++ policy) ++ (null ++ null)) ++ le number) ++ le id = e7 ∙ ap (λ (b : List ℕ). b ++ le id) six in
+    ap (λ (b : List ℕ). b ++ body) seven
+    ∙ behind_open o h (le channel) l policy null null (le number) (le id) body
+    ∙ ap (λ (w : List ℕ). o ++ (h ++ ((le channel ++ ((le (length w) ++ w) ++ (null ++ (null ++ (le number ++ le id))))) ++ body))) is
+    ∙ ap (λ (b : List ℕ). o ++ b) (open_spelled channel number id body)

@@ -1,0 +1,4 @@
+pub mod Fronts
+pub mod InOrder
+pub mod Sending
+mod Worked

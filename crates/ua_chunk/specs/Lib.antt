@@ -1,0 +1,12 @@
+pub mod Numbers
+pub mod NumberLaws
+pub mod Cut
+pub mod CutLaws
+pub mod Layout
+pub mod LayoutLaws
+pub mod Half
+pub mod Gathered
+pub mod Assembly
+pub mod AssemblyLaws
+pub mod Written
+pub mod WrittenLaws

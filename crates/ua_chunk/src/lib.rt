@@ -1,0 +1,19 @@
+//! Chunks of messages: their headers, sequence numbers, assembly and aborts.
+#![tactic(auto)]
+
+mod abort;
+mod assembly;
+mod chunk;
+mod fields;
+pub mod laws;
+mod opening;
+mod sequence;
+#[cfg(test)]
+mod tests;
+mod writing;
+
+pub use assembly::{AddFault, Added, Assembly};
+pub use chunk::{Chunk, message_chunk};
+pub use opening::{OpenChunk, POLICY_NONE, open_chunk};
+pub use sequence::{Sequence, follows};
+pub use writing::{Head, chunk_count, write_abort, write_chunks, write_close, write_open};

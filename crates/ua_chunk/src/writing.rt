@@ -1,0 +1,266 @@
+//! Frames that are written.
+
+ghost use Rattle.std.specs.Prelude.{◌≡◌, ◌+◌, ◌<◌, ◌≤◌, ◌^◌, ◌++◌, length, take, is_ok, if◌then◌else◌, OnOk, OnErr};
+ghost use Rattle.std.specs.Int.{w32, to_le_bytes};
+ghost use Rattle.ua_frame.specs.Layout.{header};
+ghost use Rattle.ua_chunk.specs.Numbers.{number_after};
+ghost use Rattle.ua_chunk.specs.NumberLaws.{IsNumber};
+ghost use Rattle.ua_chunk.specs.Cut.{part_count, fill};
+ghost use Rattle.ua_chunk.specs.Written.{open_frame, chunk_frame, close_frame, abort_frame, message_frames};
+
+use crate::opening::POLICY_NONE;
+use crate::sequence::Sequence;
+use ua_frame::Kind;
+use ua_value::NoMemory;
+
+/// Bytes of a frame's header.
+const HEADER: u32 = 8;
+
+/// Bytes of a chunk's numbers: channel id, token id, sequence number and request id.
+const NUMBERS: u32 = 16;
+
+/// Bytes of an OPN's fields before the body, by the policy None.
+const OPEN_FIELDS: u32 = 71;
+
+/// A null certificate and a null thumbprint.
+const NO_CERTIFICATE: [u8; 8] = [255; 8];
+
+/// What all chunks of a message have. OPC 10000-6, 6.7.2.3 and 6.7.2.4.
+#[derive(Clone, Copy, Debug, PartialEq, Eq)]
+pub struct Head {
+    /// The id of the secure channel.
+    pub channel: u32,
+    /// The id of the token.
+    pub token: u32,
+    /// The request id.
+    pub request_id: u32,
+}
+
+/// How many chunks hold a message of `len` bytes with at most `part_limit` bytes in each. An empty message has one.
+pub fn chunk_count(len: u64, part_limit: u32) -> u64
+    requires { 1 ≤ part_limit }
+    ensures { result ≡ part_count len part_limit }
+{
+    match len {
+        0 => 1,
+        _ => (len - 1) / part_limit as u64 + 1,
+    }
+}
+
+fn put_header(kind: Kind, flag: u8, len: u32, out: &mut Vec<u8>) -> Result<(), NoMemory>
+    requires { 8 + len < 2 ^ 32 }
+    ensures ok { OnOk result (out.new.items ≡ out.old.items ++ header kind flag len) }
+    ensures err { OnErr result (take (length out.old.items) out.new.items ≡ out.old.items) }
+{
+    out.extend_from_slice(kind.name())?;
+    out.push(flag)?;
+    out.extend_from_slice(&(HEADER + len).to_le_bytes())
+}
+
+fn put_number(number: u32, out: &mut Vec<u8>) -> Result<(), NoMemory>
+    ensures { out.new.items ≡ (if is_ok result then out.old.items ++ to_le_bytes w32 number else out.old.items) }
+{
+    out.extend_from_slice(&number.to_le_bytes())
+}
+
+/// Appends the frame of one chunk, or where memory runs out a beginning of it.
+fn put_chunk(
+    kind: Kind,
+    flag: u8,
+    head: &Head,
+    number: u32,
+    body: &[u8],
+    out: &mut Vec<u8>,
+) -> Result<(), NoMemory>
+    requires { length body.now ≤ 1048576 }
+    ensures ok { OnOk result (out.new.items ≡ out.old.items ++ chunk_frame kind flag head.now.channel head.now.token number head.now.request_id body.now) }
+    ensures err { OnErr result (take (length out.old.items) out.new.items ≡ out.old.items) }
+{
+    put_header(kind, flag, NUMBERS + body.len() as u32, out)?;
+    put_number(head.channel, out)?;
+    put_number(head.token, out)?;
+    put_number(number, out)?;
+    put_number(head.request_id, out)?;
+    out.extend_from_slice(body)
+}
+
+/// Appends an OPN frame, or where memory runs out a beginning of it.
+fn put_open(
+    channel: u32,
+    number: u32,
+    request_id: u32,
+    body: &[u8],
+    out: &mut Vec<u8>,
+) -> Result<(), NoMemory>
+    requires { length body.now ≤ 1048576 }
+    ensures ok { OnOk result (out.new.items ≡ out.old.items ++ open_frame channel number request_id body.now) }
+    ensures err { OnErr result (take (length out.old.items) out.new.items ≡ out.old.items) }
+{
+    let policy = POLICY_NONE.as_bytes();
+    put_header(Kind::Open, b'F', OPEN_FIELDS + body.len() as u32, out)?;
+    put_number(channel, out)?;
+    put_number(policy.len() as u32, out)?;
+    out.extend_from_slice(policy)?;
+    out.extend_from_slice(&NO_CERTIFICATE)?;
+    put_number(number, out)?;
+    put_number(request_id, out)?;
+    out.extend_from_slice(body)
+}
+
+/// Appends the frame of one chunk, or leaves `out` unchanged.
+fn write_chunk(
+    kind: Kind,
+    flag: u8,
+    head: &Head,
+    sequence: &mut Sequence,
+    body: &[u8],
+    out: &mut Vec<u8>,
+) -> Result<(), NoMemory>
+    requires { length body.now ≤ 1048576 }
+    ensures written { out.new.items ≡ (if is_ok result then out.old.items ++ chunk_frame kind flag head.now.channel head.now.token sequence.old head.now.request_id body.now else out.old.items) }
+    ensures numbered { sequence.new ≡ (if is_ok result then number_after sequence.old 1 else sequence.old) }
+    ensures range { IsNumber sequence.old }
+{
+    let start = out.len();
+    match put_chunk(kind, flag, head, sequence.peek(), body, out) {
+        Ok(()) => {
+            sequence.take();
+            Ok(())
+        }
+        Err(e) => {
+            out.truncate(start);
+            Err(e)
+        }
+    }
+}
+
+/// Appends the chunks of a message, or where memory runs out some of them.
+fn put_message(
+    body: &[u8],
+    head: &Head,
+    part_limit: usize,
+    sequence: &mut Sequence,
+    out: &mut Vec<u8>,
+) -> Result<(), NoMemory>
+    requires some { 1 ≤ part_limit }
+    requires least { part_limit ≤ 1048552 }
+    ensures ok { OnOk result (out.new.items ≡ out.old.items ++ message_frames head.now.channel head.now.token sequence.old 0 (fill head.now.request_id body.now part_limit)) }
+    ensures numbered { OnOk result (sequence.new ≡ number_after sequence.old (part_count (length body.now) part_limit)) }
+    ensures err { OnErr result (take (length out.old.items) out.new.items ≡ out.old.items) }
+{
+    let mut rest = body;
+    while rest.len() > part_limit {
+        let (part, others) = rest.split_at(part_limit);
+        write_chunk(Kind::Message, b'C', head, sequence, part, out)?;
+        rest = others;
+    }
+    write_chunk(Kind::Message, b'F', head, sequence, rest, out)
+}
+
+/// Appends the MSG frames of a message: parts of `part_limit` bytes, the last of 1 to `part_limit` bytes, and one
+/// empty part for an empty `body`. Each is flagged `C` but the last, which is `F`, and each has the next sequence
+/// number. OPC 10000-6, 6.7.2.2 to 6.7.2.4.
+///
+/// After `NoMemory`, `out` and `sequence` are unchanged.
+pub fn write_chunks(
+    body: &[u8],
+    head: &Head,
+    part_limit: u32,
+    sequence: &mut Sequence,
+    out: &mut Vec<u8>,
+) -> Result<(), NoMemory>
+    requires some { 1 ≤ part_limit }
+    requires least { part_limit ≤ 1048552 }
+    ensures written { out.new.items ≡ (if is_ok result then out.old.items ++ message_frames head.now.channel head.now.token sequence.old 0 (fill head.now.request_id body.now part_limit) else out.old.items) }
+    ensures numbered { sequence.new ≡ (if is_ok result then number_after sequence.old (part_count (length body.now) part_limit) else sequence.old) }
+{
+    let start = out.len();
+    let mut numbers = sequence.again();
+    match put_message(body, head, part_limit as usize, &mut numbers, out) {
+        Ok(()) => {
+            *sequence = numbers;
+            Ok(())
+        }
+        Err(e) => {
+            out.truncate(start);
+            Err(e)
+        }
+    }
+}
+
+/// Appends the OPN frame with the body of an open request or response, by the policy None, without certificate and
+/// thumbprint. OPC 10000-6, 6.7.2.
+///
+/// After `NoMemory`, `out` and `sequence` are unchanged.
+pub fn write_open(
+    channel: u32,
+    request_id: u32,
+    body: &[u8],
+    sequence: &mut Sequence,
+    out: &mut Vec<u8>,
+) -> Result<(), NoMemory>
+    requires { length body.now ≤ 1048576 }
+    ensures written { out.new.items ≡ (if is_ok result then out.old.items ++ open_frame channel sequence.old request_id body.now else out.old.items) }
+    ensures numbered { sequence.new ≡ (if is_ok result then number_after sequence.old 1 else sequence.old) }
+{
+    let start = out.len();
+    match put_open(channel, sequence.peek(), request_id, body, out) {
+        Ok(()) => {
+            sequence.take();
+            Ok(())
+        }
+        Err(e) => {
+            out.truncate(start);
+            Err(e)
+        }
+    }
+}
+
+/// Appends the CLO frame with the body of a close request. OPC 10000-6, 6.7.2.
+///
+/// After `NoMemory`, `out` and `sequence` are unchanged.
+pub fn write_close(
+    channel: u32,
+    token: u32,
+    request_id: u32,
+    body: &[u8],
+    sequence: &mut Sequence,
+    out: &mut Vec<u8>,
+) -> Result<(), NoMemory>
+    requires { length body.now ≤ 1048576 }
+    ensures written { out.new.items ≡ (if is_ok result then out.old.items ++ close_frame channel token sequence.old request_id body.now else out.old.items) }
+    ensures numbered { sequence.new ≡ (if is_ok result then number_after sequence.old 1 else sequence.old) }
+{
+    let head = Head {
+        channel,
+        token,
+        request_id,
+    };
+    write_chunk(Kind::Close, b'F', &head, sequence, body, out)
+}
+
+/// Appends the MSG frame by which a sender gives a message up, with the reason as a status and no text.
+/// OPC 10000-6, 6.7.3.
+///
+/// After `NoMemory`, `out` and `sequence` are unchanged.
+#[tactic(auto, unfolding(crate::specs::Layout::abort_body, ua_value::specs::Number::unsigned, ua_value::specs::Text::bytes_of))]
+pub fn write_abort(
+    channel: u32,
+    token: u32,
+    request_id: u32,
+    status: u32,
+    sequence: &mut Sequence,
+    out: &mut Vec<u8>,
+) -> Result<(), NoMemory>
+    ensures written { out.new.items ≡ (if is_ok result then out.old.items ++ abort_frame channel token sequence.old request_id status else out.old.items) }
+    ensures numbered { sequence.new ≡ (if is_ok result then number_after sequence.old 1 else sequence.old) }
+{
+    let head = Head {
+        channel,
+        token,
+        request_id,
+    };
+    let [a, b, c, d] = status.to_le_bytes();
+    let body = [a, b, c, d, 255, 255, 255, 255];
+    write_chunk(Kind::Message, b'A', &head, sequence, &body, out)
+}
