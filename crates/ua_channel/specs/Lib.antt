@@ -1,0 +1,4 @@
+pub mod Token
+pub mod Newest
+pub mod Channel
+pub mod Admission

@@ -1,0 +1,204 @@
+//! The server's channel.
+
+ghost use Rattle.std.specs.Prelude.{◌≡◌, ◌<◌, ◌^◌, max, Ok, Err, Some, None, IfOk, IfErr, OnOk, OnErr};
+ghost use Rattle.ua_frame.specs.Rows.{first_row};
+ghost use Rattle.ua_frame.specs.Streams.{moment_of};
+ghost use Rattle.ua_channel.specs.Token.{next_token};
+ghost use Rattle.ua_channel.specs.Channel.{new_channel, numbered, renewed, heard, most};
+ghost use Rattle.ua_channel.specs.Admission.{admit_open_rows, issue_rows, admit_rows};
+
+use crate::newest::Newest;
+use crate::rules::{follows_last, is_policy_none};
+use crate::status::{
+    BAD_REQUEST_TYPE_INVALID, BAD_SECURE_CHANNEL_TOKEN_UNKNOWN, BAD_SECURITY_MODE_REJECTED,
+    BAD_SECURITY_POLICY_REJECTED, BAD_SEQUENCE_NUMBER_INVALID, BAD_TCP_NOT_ENOUGH_RESOURCES,
+    BAD_TCP_SECURE_CHANNEL_UNKNOWN,
+};
+use crate::token::{Token, revised};
+use std::marker::Model;
+use ua_chunk::{Chunk, OpenChunk};
+use ua_service::OpenRequest;
+
+/// The security mode that signs and encrypts nothing.
+const MODE_NONE: i32 = 1;
+/// The request types that open a channel and that renew its token.
+const ISSUE: i32 = 0;
+
+const RENEW: i32 = 1;
+
+/// What an open request is granted.
+#[derive(Clone, Copy, Debug, PartialEq, Eq)]
+pub struct Issued {
+    /// The id of the new token.
+    pub token: u32,
+    /// Its lifetime in milliseconds.
+    pub lifetime: u32,
+}
+
+/// The server's end of a channel, as contracts see it: its id, the two newest tokens, the last sequence number,
+/// the greatest token that a message used, and the greatest moment that came.
+#[derive(Debug, Drop)]
+pub struct ServerChannel {
+    id: u32,
+    tokens: Newest,
+    last: Option<u32>,
+    used: Option<u32>,
+    moment: u64,
+}
+
+impl Model for ServerChannel {
+    ghost use Rattle.ua_channel.specs.Channel.{Shown};
+
+    ghost Value = { Shown };
+
+    ghost use Rattle.ua_channel.specs.Newest.{tokens_of};
+
+    ghost view = { λ a. record {
+      channel = record { id = a.id; tokens = tokens_of a.tokens; last = a.last; used = a.used };
+      moment = a.moment;
+    } };
+}
+
+impl ServerChannel {
+    /// A channel with the id that the server gives it, before its first frame.
+    pub fn start(id: u32) -> ServerChannel
+        ensures { result ≡ record { channel = new_channel id; moment = 0 } }
+    {
+        ServerChannel {
+            id,
+            tokens: Newest::None,
+            last: None,
+            used: None,
+            moment: 0,
+        }
+    }
+
+    /// Admits an OPN frame, whose sequence number then counts as the last one.
+    ///
+    /// `Err` is the status of the first thing that is wrong: the channel id, which is 0 in the first frame
+    /// (`BAD_TCP_SECURE_CHANNEL_UNKNOWN`), then a policy other than None (`BAD_SECURITY_POLICY_REJECTED`), then the
+    /// sequence number (`BAD_SEQUENCE_NUMBER_INVALID`). A refused frame changes nothing. The call takes no memory.
+    /// OPC 10000-6, 6.7.2.3 and 6.7.2.4.
+    pub fn admit_open(&mut self, chunk: &OpenChunk) -> Result<(), u32>
+        ensures refused { IfErr result (λ status.
+            first_row (admit_open_rows self.old.channel chunk.now) ≡ Some status) }
+        ensures admitted { OnOk result (
+            first_row (admit_open_rows self.old.channel chunk.now) ≡ None) }
+        ensures after { OnOk result (self.new ≡ record { channel = numbered self.old.channel chunk.now.sequence; moment = self.old.moment }) }
+        ensures unchanged { OnErr result (self.new ≡ self.old) }
+    {
+        let awaited = if self.tokens.is_none() { 0 } else { self.id };
+        if chunk.channel() != awaited {
+            return Err(BAD_TCP_SECURE_CHANNEL_UNKNOWN);
+        }
+        if !is_policy_none(chunk.policy()) {
+            return Err(BAD_SECURITY_POLICY_REJECTED);
+        }
+        if !follows_last(self.last, chunk.sequence()) {
+            return Err(BAD_SEQUENCE_NUMBER_INVALID);
+        }
+        self.last = Some(chunk.sequence());
+        Ok(())
+    }
+
+    /// Issues the next token to the open request of an admitted frame, at the moment `now` in ticks of 100
+    /// nanoseconds. A moment before 0, or before that of an earlier call, counts as that.
+    ///
+    /// `Err` is the status of the first thing that is wrong: the request type, which is to issue at first and to renew
+    /// later (`BAD_REQUEST_TYPE_INVALID`), then a security mode other than None (`BAD_SECURITY_MODE_REJECTED`), then
+    /// that no token id is left (`BAD_TCP_NOT_ENOUGH_RESOURCES`). A refused request changes nothing, and leaves no
+    /// moment behind. The call takes no memory. OPC 10000-4, 5.6.2.
+    pub fn issue(&mut self, request: &OpenRequest, now: i64) -> Result<Issued, u32>
+        ensures refused { IfErr result (λ status.
+            first_row (issue_rows self.old.channel request.now) ≡ Some status) }
+        ensures admitted { OnOk result (first_row (issue_rows self.old.channel request.now) ≡ None) }
+        ensures issued { IfOk result (λ issued. let token = next_token self.old.channel.tokens (max self.old.moment (moment_of now)) request.now.requested_lifetime in
+            issued ≡ record { token = token.id; lifetime = token.lifetime }) }
+        ensures after { OnOk result (let at = max self.old.moment (moment_of now) in
+            self.new ≡ record { channel = renewed self.old.channel at request.now.requested_lifetime; moment = at }) }
+        ensures unchanged { OnErr result (self.new ≡ self.old) }
+    {
+        let awaited = if self.tokens.is_none() { ISSUE } else { RENEW };
+        if request.request_type != awaited {
+            return Err(BAD_REQUEST_TYPE_INVALID);
+        }
+        if request.security_mode != MODE_NONE {
+            return Err(BAD_SECURITY_MODE_REJECTED);
+        }
+        let Some(id) = self.tokens.newest_id().checked_add(1) else {
+            return Err(BAD_TCP_NOT_ENOUGH_RESOURCES);
+        };
+        let lifetime = revised(request.requested_lifetime);
+        self.moment = later(self.moment, now);
+        self.tokens = self.tokens.followed_by(Token {
+            id,
+            issued: self.moment,
+            lifetime,
+        });
+        Ok(Issued {
+            token: id,
+            lifetime,
+        })
+    }
+
+    /// Admits a MSG or CLO frame whose last byte came at the moment `now`, in ticks of 100 nanoseconds. Its sequence
+    /// number then counts as the last one, and its token as used. A moment before 0, or before that of an earlier
+    /// call, counts as that.
+    ///
+    /// `Err` is the status of the first thing that is wrong: the channel id (`BAD_TCP_SECURE_CHANNEL_UNKNOWN`), then
+    /// a token that is not one of the two newest or no longer alive (`BAD_SECURE_CHANNEL_TOKEN_UNKNOWN`), then the
+    /// sequence number (`BAD_SEQUENCE_NUMBER_INVALID`). A refused frame changes nothing, and leaves no moment behind.
+    /// The call takes no memory. OPC 10000-6, 6.7.2.3 and 6.7.2.4; OPC 10000-4, 5.6.2.1.
+    pub fn admit(&mut self, chunk: &Chunk, now: i64) -> Result<(), u32>
+        ensures refused { IfErr result (λ status.
+            first_row (admit_rows self.old.channel chunk.now.chunk (max self.old.moment (moment_of now))) ≡ Some status) }
+        ensures admitted { OnOk result (
+            first_row (admit_rows self.old.channel chunk.now.chunk (max self.old.moment (moment_of now))) ≡ None) }
+        ensures after { OnOk result (
+            self.new ≡ record { channel = heard self.old.channel chunk.now.chunk.token chunk.now.chunk.sequence; moment = max self.old.moment (moment_of now) }) }
+        ensures unchanged { OnErr result (self.new ≡ self.old) }
+    {
+        if chunk.channel() != self.id {
+            return Err(BAD_TCP_SECURE_CHANNEL_UNKNOWN);
+        }
+        let now = later(self.moment, now);
+        if !self.tokens.is_usable(chunk.token(), now) {
+            return Err(BAD_SECURE_CHANNEL_TOKEN_UNKNOWN);
+        }
+        if !follows_last(self.last, chunk.sequence()) {
+            return Err(BAD_SEQUENCE_NUMBER_INVALID);
+        }
+        self.last = Some(chunk.sequence());
+        note_used(&mut self.used, chunk.token());
+        self.moment = now;
+        Ok(())
+    }
+
+    /// The token that the server sends with: the newest that the client has used. None before it used one.
+    /// OPC 10000-4, 5.6.2.1.
+    pub fn sending_token(&self) -> Option<u32>
+        ensures { result ≡ self.now.channel.used }
+    {
+        self.used
+    }
+}
+
+/// The greatest of 0, the moment that came and the one before.
+fn later(before: u64, now: i64) -> u64
+    ensures { result ≡ max before (moment_of now) }
+{
+    match u64::try_from(now) {
+        Ok(now) => before.max(now),
+        Err(_) => before,
+    }
+}
+
+/// Notes that a message used the token.
+fn note_used(used: &mut Option<u32>, token: u32)
+    ensures { used.new ≡ Some (most used.old token) }
+{
+    *used = match *used {
+        None => Some(token),
+        Some(greatest) => Some(greatest.max(token)),
+    };
+}
