@@ -1,0 +1,15 @@
+pub mod Step
+pub mod Runs
+pub mod Retimed
+pub mod Numbers
+pub mod ByRecord
+pub mod Stopped
+pub mod FirstFault
+pub mod RowsTell
+pub mod Ready
+pub mod AbortFrame
+pub mod Grammar
+pub mod LegalLaw
+pub mod Vectors
+pub mod Opening
+pub mod Rows

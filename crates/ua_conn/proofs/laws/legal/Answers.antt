@@ -1,0 +1,6 @@
+use Rattle.ua_conn.proofs.LegalLaw.{legal_law}
+use Rattle.ua_conn.proofs.Opening.{opens}
+use Rattle.ua_conn.proofs.laws.legal.Goals as goal
+
+pub returns : goal.returns
+returns c = λ site room. legal_law site room (opens site room)

@@ -1,0 +1,5 @@
+use Rattle.ua_conn.proofs.Stopped.{stays}
+use Rattle.ua_conn.proofs.laws.stays_stopped.Goals as goal
+
+pub returns : goal.returns
+returns c = stays

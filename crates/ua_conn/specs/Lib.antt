@@ -1,0 +1,10 @@
+pub mod Site
+pub mod Answers
+pub mod Past
+pub mod Faults
+pub mod Replies
+pub mod Held
+pub mod Machine
+pub mod FirstFault
+pub mod Legal
+pub mod Whole

@@ -1,0 +1,14 @@
+-- What whole lists of pieces bring.
+use Rattle.std.specs.Prelude.{◌≡◌, List, ◌++◌, Some}
+use Rattle.ua_frame.specs.Streams.{Piece, TimedByte, timed, Framed, cuts_of, rest_of}
+use Rattle.ua_conn.specs.Site.{Site}
+use Rattle.ua_conn.specs.Replies.{end_of, reply_bytes, handed}
+use Rattle.ua_conn.specs.Held.{stop}
+use Rattle.ua_conn.specs.declared.outcome.End.{End}
+
+-- once a stream has a fault or a CLO, what comes later changes nothing
+abbrev pub StaysStopped : Type 0
+StaysStopped = (site : Site) (ps qs : List Piece) (ending : End) → stop (end_of site (timed ps)) ≡ Some ending →
+    (reply_bytes site (timed (ps ++ qs)) ≡ reply_bytes site (timed ps))
+    × (handed site (timed (ps ++ qs)) ≡ handed site (timed ps))
+    × (end_of site (timed (ps ++ qs)) ≡ end_of site (timed ps))

@@ -1,0 +1,38 @@
+//! Laws of the definitions of a connection: what they say is true of every stream of bytes.
+
+ghost use Rattle.std.specs.Prelude.{◌≡◌, List};
+ghost use Rattle.ua_frame.specs.Streams.{TimedByte, Framed, cuts_of, rest_of};
+ghost use Rattle.ua_conn.specs.FirstFault.{StopsFirst};
+ghost use Rattle.ua_conn.specs.Held.{ByRecord};
+ghost use Rattle.ua_conn.specs.Legal.{HasRoom, BeginsLegal};
+ghost use Rattle.ua_conn.specs.Site.{Site};
+ghost use Rattle.ua_conn.specs.Whole.{StaysStopped};
+
+/// A stream is one list of frames and one rest, those of `cuts_of` and `rest_of`. OPC 10000-6, 7.1.2.2.
+pub fn framed()
+    ensures some { (s : List TimedByte) → Framed s (cuts_of s) (rest_of s) }
+    ensures one { (s : List TimedByte) (fs gs : List (List TimedByte)) (r q : List TimedByte) →
+        Framed s fs r → Framed s gs q → (fs ≡ gs) × (r ≡ q) }
+{}
+
+/// What one more piece brings to a server that goes on depends on the record of what it holds and the piece alone:
+/// the bytes that the reply gains, the requests that are handed on, the end, and the record then.
+pub fn by_record()
+    ensures { ByRecord }
+{}
+
+/// A reading stops at the least place where a row of the table of refusals holds or a CLO stands.
+pub fn first_fault()
+    ensures { StopsFirst }
+{}
+
+/// Once a stream has a fault or a CLO, what comes later changes neither reply, requests nor end.
+pub fn stays_stopped()
+    ensures { StaysStopped }
+{}
+
+/// A server that takes frames of 8192 bytes refuses nothing in a list of frames, with nothing behind a CLO, exactly
+/// where the list is a beginning of what a client may send.
+pub fn legal()
+    ensures { (site : Site) → HasRoom site → BeginsLegal site }
+{}

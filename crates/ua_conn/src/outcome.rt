@@ -1,0 +1,20 @@
+//! How a connection ends.
+
+/// How a connection came to its end.
+#[derive(Clone, Copy, Debug, PartialEq, Eq)]
+pub enum End {
+    /// A close request came (OPC 10000-4, 5.6.3).
+    Closed,
+    /// The input ended behind a whole frame, or before the first byte.
+    InputEnded,
+    /// The input ended within a frame.
+    Truncated,
+    /// A frame was refused with this status (OPC 10000-6, 7.1.2.5).
+    Refused(u32),
+    /// The link failed.
+    LinkFailed,
+    /// The turns that were given are spent.
+    TurnsSpent,
+    /// Memory ran out.
+    NoMemory,
+}
