@@ -17,6 +17,9 @@ use Rattle.ua_value.specs.Expanded.{expanded_node_id}
 use Rattle.ua_value.specs.Status.{status_code}
 use Rattle.ua_value.specs.Names.{qualified_name}
 use Rattle.ua_value.specs.Localized.{localized_text}
+use Rattle.ua_variant.specs.Extension.{extension_object}
+use Rattle.ua_variant.specs.Formats.{variant_format, data_format}
+use Rattle.ua_variant.specs.Diagnostic.{diagnostic}
 use Rattle.ua_value.specs.declared.guid.Guid.{Guid}
 use Rattle.ua_value.specs.declared.node.NodeId.{NodeId}
 use Rattle.ua_value.specs.declared.node.Identifier.{Identifier}
@@ -94,6 +97,10 @@ shape_of types.ExpandedNodeId = two_lines expanded_node_id
 shape_of types.StatusCode = two_lines status_code
 shape_of types.QualifiedName = two_lines qualified_name
 shape_of types.LocalizedText = two_lines localized_text
+shape_of types.ExtensionObject = two_lines extension_object
+shape_of types.DataValue = two_lines data_format
+shape_of types.Variant = two_lines variant_format
+shape_of types.DiagnosticInfo = two_lines diagnostic
 
 -- the text is the lines of a value that the bytes begin with
 abbrev pub Prints : Shape → List ℕ → List ℕ → Type 0

@@ -1,5 +1,6 @@
 -- The exit statuses, and what each fault of a step is to the command.
-use Rattle.std.specs.Prelude.{ℕ}
+use Rattle.std.specs.Prelude.{◌≡◌, ℕ, List, Result, Err}
+use Rattle.uadisc.specs.Script.{Timed}
 use Rattle.uadisc.specs.declared.stop.Stop.{Stop}
 use Rattle.uadisc.specs.declared.stop.Stop.TheVariants.{Words, Line, File, NoMemory}
 use Rattle.uadisc.specs.declared.command.WordsFault.{WordsFault}
@@ -27,3 +28,10 @@ stop_of_input input.NoMemory = NoMemory
 abbrev pub stop_of_script : ScriptFault → Stop
 stop_of_script (script.BadLine number) = Line number
 stop_of_script script.NoMemory = NoMemory
+
+-- a line that stops the command is the first bad one; another stop may come at any lines
+abbrev pub IsStopOf : Result (List Timed) ℕ → Stop → Type 0
+IsStopOf script (Line number) = script ≡ Err number
+IsStopOf script (Words text) = ⊥
+IsStopOf script File = Unit {0}
+IsStopOf script NoMemory = Unit {0}

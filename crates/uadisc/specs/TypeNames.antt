@@ -1,7 +1,7 @@
 -- The names of the built-in types.
 use Rattle.std.specs.Prelude.{ℕ, List, codes}
 use Rattle.uadisc.specs.declared.type_name.TypeName.{TypeName}
-use Rattle.uadisc.specs.declared.type_name.TypeName.TheVariants.{Boolean, SByte, Byte, Int16, UInt16, Int32, UInt32, Int64, UInt64, Float, Double, String, DateTime, Guid, ByteString, XmlElement, NodeId, ExpandedNodeId, StatusCode, QualifiedName, LocalizedText}
+use Rattle.uadisc.specs.declared.type_name.TypeName.TheVariants.{Boolean, SByte, Byte, Int16, UInt16, Int32, UInt32, Int64, UInt64, Float, Double, String, DateTime, Guid, ByteString, XmlElement, NodeId, ExpandedNodeId, StatusCode, QualifiedName, LocalizedText, ExtensionObject, DataValue, Variant, DiagnosticInfo}
 
 abbrev pub name_of : TypeName → List ℕ
 name_of Boolean = codes "Boolean"
@@ -25,3 +25,7 @@ name_of ExpandedNodeId = codes "ExpandedNodeId"
 name_of StatusCode = codes "StatusCode"
 name_of QualifiedName = codes "QualifiedName"
 name_of LocalizedText = codes "LocalizedText"
+name_of ExtensionObject = codes "ExtensionObject"
+name_of DataValue = codes "DataValue"
+name_of Variant = codes "Variant"
+name_of DiagnosticInfo = codes "DiagnosticInfo"

@@ -1,7 +1,9 @@
 //! The command `answer`: answers the pieces of a connection.
 
-ghost use Rattle.std.specs.Prelude.{◌≡◌, ◌≤◌, IfOk};
+ghost use Rattle.std.specs.Prelude.{◌≡◌, ◌≤◌, IfOk, IfErr, IfSome, Ok};
 ghost use Rattle.uadisc.specs.End.{end_status};
+ghost use Rattle.uadisc.specs.Script.{script_in, times};
+ghost use Rattle.uadisc.specs.Stop.{IsStopOf};
 
 use crate::conversation::hello_all;
 use crate::input::read_whole;
@@ -62,6 +64,16 @@ fn status_of(end: End) -> u8
     }
 }
 
+/// The pieces that the lines of the whole input give, or the number of the first bad line.
+fn pieces_in<I: Read>(alloc: Global, input: &mut I) -> Result<Vec<TimedPiece>, Stop>
+    ensures ok { IfOk result (λ pieces. IfSome (I.remaining input.old) (λ text. script_in text ≡ Ok (times pieces.items))) }
+    ensures err { IfErr result (λ stop. IfSome (I.remaining input.old) (λ text. IsStopOf (script_in text) stop)) }
+{
+    let text = read_whole(alloc, input)?;
+    let pieces = script_of(alloc, text.as_slice())?;
+    Ok(pieces)
+}
+
 /// Answers the pieces that the input gives, prints the reply and the end, and gives the exit
 /// status: 0 where the input ended behind a whole frame, else 1.
 ///
@@ -70,8 +82,7 @@ fn status_of(end: End) -> u8
 pub fn answer<I: Read, O: Write>(alloc: Global, input: &mut I, output: &mut O) -> Result<u8, Stop>
     ensures { IfOk result (λ status. status ≤ 1) }
 {
-    let text = read_whole(alloc, input)?;
-    let pieces = script_of(alloc, text.as_slice())?;
+    let pieces = pieces_in(alloc, input)?;
     let outcome = answered(alloc, pieces.as_slice())?;
     let lines = lines(alloc, &outcome)?;
     print(output, lines.as_str())?;

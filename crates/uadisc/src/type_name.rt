@@ -28,6 +28,10 @@ pub enum TypeName {
     StatusCode,
     QualifiedName,
     LocalizedText,
+    ExtensionObject,
+    DataValue,
+    Variant,
+    DiagnosticInfo,
 }
 
 /// The name of a type.
@@ -56,6 +60,10 @@ pub fn name(kind: TypeName) -> &'static str
         TypeName::StatusCode => "StatusCode",
         TypeName::QualifiedName => "QualifiedName",
         TypeName::LocalizedText => "LocalizedText",
+        TypeName::ExtensionObject => "ExtensionObject",
+        TypeName::DataValue => "DataValue",
+        TypeName::Variant => "Variant",
+        TypeName::DiagnosticInfo => "DiagnosticInfo",
     }
 }
 
@@ -85,6 +93,10 @@ pub fn of_name(text: &str) -> Option<TypeName>
         "StatusCode" => Some(TypeName::StatusCode),
         "QualifiedName" => Some(TypeName::QualifiedName),
         "LocalizedText" => Some(TypeName::LocalizedText),
+        "ExtensionObject" => Some(TypeName::ExtensionObject),
+        "DataValue" => Some(TypeName::DataValue),
+        "Variant" => Some(TypeName::Variant),
+        "DiagnosticInfo" => Some(TypeName::DiagnosticInfo),
         _ => None,
     }
 }

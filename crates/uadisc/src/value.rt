@@ -15,6 +15,7 @@ use ua_value::{
     DateTime, DoubleBits, ExpandedNodeId, FloatBits, Guid, LocalizedText, NoMemory, NodeId,
     QualifiedName, ReadFault, StatusCode, UaBytes, UaString, Wire, XmlElement,
 };
+use ua_variant::{DataValue, DiagnosticInfo, ExtensionObject, Variant};
 
 /// The most bytes of one input, which no machine holds.
 const MOST_BYTES: usize = 1 << 60;
@@ -112,6 +113,10 @@ fn lines_of(alloc: Global, kind: TypeName, bytes: &[u8]) -> Result<String, ReadF
         TypeName::StatusCode => plain::<StatusCode>(alloc, bytes),
         TypeName::QualifiedName => plain::<QualifiedName>(alloc, bytes),
         TypeName::LocalizedText => plain::<LocalizedText>(alloc, bytes),
+        TypeName::ExtensionObject => plain::<ExtensionObject>(alloc, bytes),
+        TypeName::DataValue => plain::<DataValue>(alloc, bytes),
+        TypeName::Variant => plain::<Variant>(alloc, bytes),
+        TypeName::DiagnosticInfo => plain::<DiagnosticInfo>(alloc, bytes),
     }
 }
 

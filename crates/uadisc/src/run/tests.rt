@@ -8,6 +8,15 @@ const HELLO: &str =
 const ACKNOWLEDGED: &str =
     "41434b461c00000000000000ffff0000ffff00000000100040000000\nend input-ended\n";
 
+const HELLO_IN_TWO: &str =
+    "48454C463800\n@7\n0000 00000000 FFFF0000 FFFF0000 00000000 00000000 18000000 6F70632E7463703A2F2F6C6F63616C686F73743A34383430";
+
+const TWO_HELLOS: &str =
+    "48454C46 38000000 00000000 FFFF0000 FFFF0000 00000000 00000000 18000000 6F70632E7463703A2F2F6C6F63616C686F73743A34383430\n48454C46 38000000 00000000 FFFF0000 FFFF0000 00000000 00000000 18000000 6F70632E7463703A2F2F6C6F63616C686F73743A34383430";
+
+const SECOND_REFUSED: &str =
+    "41434b461c00000000000000ffff0000ffff00000000100040000000455252461000000000007e80ffffffff\nend refused 807E0000\n";
+
 const NOTHING: &str = "\nend input-ended\n";
 
 const NOT_A_TYPE: &str = "455252461000000000007e80ffffffff\nend refused 807E0000\n";
@@ -107,6 +116,8 @@ fn answers_each_form_of_line(rt: HostRuntime) {
         ("@5\n@ 0 07 \r\n@9223372036854775807", 0, NOTHING),
         ("@0\n 47 45\r\n@12\n54 20\n2f2048 54", 1, NOT_A_TYPE),
         ("48454C46", 1, "\nend truncated\n"),
+        (HELLO_IN_TWO, 0, ACKNOWLEDGED),
+        (TWO_HELLOS, 1, SECOND_REFUSED),
     ] {
         expect(&rt, &["answer", "default"], input, status, output, "");
     }
@@ -265,6 +276,54 @@ fn reads_each_plain_type(rt: HostRuntime) {
     }
 }
 
+#[test]
+fn reads_each_type_that_holds_others(rt: HostRuntime) {
+    for (kind, digits, output) in [
+        (
+            "Variant",
+            "1A02000000AABB",
+            "used 7 of 7\ncanon 0f02000000aabb\n",
+        ),
+        ("Variant", "00", "used 1 of 1\ncanon 00\n"),
+        (
+            "Variant",
+            "C602000000010000000200000002000000020000000100000000",
+            "used 25 of 26\ncanon c6020000000100000002000000020000000200000001000000\n",
+        ),
+        ("DiagnosticInfo", "10FFFFFFFF", "used 5 of 5\ncanon 00\n"),
+        (
+            "DataValue",
+            "0197010000000100",
+            "used 8 of 8\ncanon 0197010000000100\n",
+        ),
+        (
+            "DataValue",
+            "140000000000000000FFFF",
+            "used 11 of 11\ncanon 1400000000000000000f27\n",
+        ),
+        (
+            "ExtensionObject",
+            "00480101000000FF",
+            "used 8 of 8\ncanon 00480101000000ff\n",
+        ),
+    ] {
+        expect(&rt, &["value", kind, digits], "", 0, output, "");
+    }
+    for (kind, digits) in [
+        ("DiagnosticInfo", "80"),
+        (
+            "Variant",
+            "C602000000010000000200000002000000020000000200000000",
+        ),
+        ("Variant", "1800"),
+        ("Variant", "40"),
+        ("DataValue", "40"),
+        ("ExtensionObject", "004803"),
+    ] {
+        expect(&rt, &["value", kind, digits], "", 1, "refused\n", "");
+    }
+}
+
 /// Runs words that clap refuses, and looks for its text and for nothing else.
 fn expect_refusal<R: AllocGlobal + Abort>(rt: &R, words: &[&str]) {
     let mut input = b"4g".as_slice();
@@ -280,7 +339,7 @@ fn expect_refusal<R: AllocGlobal + Abort>(rt: &R, words: &[&str]) {
 #[test]
 fn refuses_words(rt: HostRuntime) {
     for (kind, digits) in [
-        ("Variant", "00"),
+        ("Decimal", "00"),
         ("boolean", "00"),
         ("", "00"),
         ("Boolean", "0"),

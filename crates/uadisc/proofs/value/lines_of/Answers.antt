@@ -126,3 +126,27 @@ returns-in-LocalizedText-clause-ok c = rw c.in-LocalizedText.is c.plain-in-Local
 
 pub returns-in-LocalizedText-clause-err : goal.returns-in-LocalizedText-clause-err
 returns-in-LocalizedText-clause-err c = refused_as _ _ c.args.bytes.now c.plain-in-LocalizedText.result c.in-LocalizedText.is c.plain-in-LocalizedText.ensures.err
+
+pub returns-in-ExtensionObject-clause-ok : goal.returns-in-ExtensionObject-clause-ok
+returns-in-ExtensionObject-clause-ok c = rw c.in-ExtensionObject.is c.plain-in-ExtensionObject.ensures.ok
+
+pub returns-in-ExtensionObject-clause-err : goal.returns-in-ExtensionObject-clause-err
+returns-in-ExtensionObject-clause-err c = refused_as _ _ c.args.bytes.now c.plain-in-ExtensionObject.result c.in-ExtensionObject.is c.plain-in-ExtensionObject.ensures.err
+
+pub returns-in-DataValue-clause-ok : goal.returns-in-DataValue-clause-ok
+returns-in-DataValue-clause-ok c = rw c.in-DataValue.is c.plain-in-DataValue.ensures.ok
+
+pub returns-in-DataValue-clause-err : goal.returns-in-DataValue-clause-err
+returns-in-DataValue-clause-err c = refused_as _ _ c.args.bytes.now c.plain-in-DataValue.result c.in-DataValue.is c.plain-in-DataValue.ensures.err
+
+pub returns-in-Variant-clause-ok : goal.returns-in-Variant-clause-ok
+returns-in-Variant-clause-ok c = rw c.in-Variant.is c.plain-in-Variant.ensures.ok
+
+pub returns-in-Variant-clause-err : goal.returns-in-Variant-clause-err
+returns-in-Variant-clause-err c = refused_as _ _ c.args.bytes.now c.plain-in-Variant.result c.in-Variant.is c.plain-in-Variant.ensures.err
+
+pub returns-in-DiagnosticInfo-clause-ok : goal.returns-in-DiagnosticInfo-clause-ok
+returns-in-DiagnosticInfo-clause-ok c = rw c.in-DiagnosticInfo.is c.plain-in-DiagnosticInfo.ensures.ok
+
+pub returns-in-DiagnosticInfo-clause-err : goal.returns-in-DiagnosticInfo-clause-err
+returns-in-DiagnosticInfo-clause-err c = refused_as _ _ c.args.bytes.now c.plain-in-DiagnosticInfo.result c.in-DiagnosticInfo.is c.plain-in-DiagnosticInfo.ensures.err
