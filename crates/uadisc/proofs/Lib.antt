@@ -10,4 +10,7 @@ pub mod Hearing
 pub mod Fed
 pub mod Stopped
 pub mod Answered
+pub mod Asked
+pub mod Codes
+pub mod Ends
 mod ConversationRows

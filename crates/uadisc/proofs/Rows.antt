@@ -1,12 +1,11 @@
 -- The subcommand of some matches, from its name and its rows.
-use Rattle.std.proofs.Common.{◌≡◌, ℕ, List, Option, Some, None, Result, Ok, Err, IfOk, option_map, sym, ◌∙◌, ap₂, Box, true≢false, is_some, ap, subst, codes, refl}
+use Rattle.std.proofs.Common.{◌≡◌, List, Option, Some, None, Result, Ok, Err, IfOk, option_map, sym, ◌∙◌, ap₂, Box, true≢false, is_some, ap, subst, codes}
 use Rattle.std.proofs.lemmas.Option.{same_Some}
 use Rattle.std.specs.Box.{box_value}
-use Rattle.clap.specs.Words.{App, Row, Text, HasMatchesOf, subcommand_of, subcommand_rows, subcommand_rows_of, rows_of, first_value}
+use Rattle.clap.specs.Words.{Row, Text, subcommand_rows, rows_of, first_value}
 use Rattle.clap.proofs.WalkLemmas.{first_value-rows}
 use Rattle.clap.specs.declared.parser.matches.Found.{Found}
-use Rattle.uadisc.specs.Command.{Asks, IsAnswerOf, IsValueOf, IsHexOf, uadisc}
-use Rattle.clap.specs.declared.parser.matches.ArgMatches.{ArgMatches}
+use Rattle.uadisc.specs.Command.{Asks, IsAnswerOf, IsValueOf, IsHexOf}
 use Rattle.uadisc.specs.declared.command.Command.{Command}
 use Rattle.uadisc.specs.declared.command.Command.TheVariants.{Answer, Value}
 use Rattle.clap.specs.declared.parser.matches.SubCommand.{SubCommand}
@@ -26,9 +25,3 @@ pub asks_value : {E : Type 0} (f : Found) (found : Option (Text × List Row)) (r
 asks_value f found (Ok Answer) e h = absurd h
 asks_value f found (Ok (Value kind bytes)) e h = (rows_of f, e, (sym (first_value-rows f (codes "type")) ∙ h.0, subst (IsHexOf bytes.items) (first_value-rows f (codes "hex")) h.1))
 asks_value f found (Err fault) e h = h
-
--- what the words ask for is what the matches of the whole command say
-pub asks_of : {E : Type 0} (a : App) (words : List Text) (m : ArgMatches) (r : Result Command E) → HasMatchesOf a words m → a ≡ uadisc → IfOk r (Asks (subcommand_rows_of m)) → IfOk r (Asks (subcommand_of uadisc words))
-asks_of a words m r matches e h =
-    let same : HasMatchesOf uadisc words m = subst (λ x. HasMatchesOf x words m) e matches in
-    subst (λ found. IfOk r (Asks found)) (same refl).1 h

@@ -1,5 +1,5 @@
 -- The lines of a value, from what was read and what was printed.
-use Rattle.std.proofs.Common.{◌≡◌, ℕ, List, ◌++◌, length, Result, Ok, Err, IfErr, subst, sym, ◌∙◌, append-nil}
+use Rattle.std.proofs.Common.{◌≡◌, ℕ, List, length, Result, Ok, Err, IfErr, subst, sym, ◌∙◌, append-nil}
 use Rattle.ua_value.specs.Format.{Format, Reads}
 use Rattle.uadisc.specs.Printed.{value_lines, two_lines, shape_of, Prints}
 use Rattle.ua_value.specs.declared.fault.ReadFault.{ReadFault}

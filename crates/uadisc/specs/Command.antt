@@ -1,11 +1,15 @@
 -- The command line as clap reads it.
-use Rattle.std.specs.Prelude.{◌≡◌, ℕ, codes, true, Some, None, Option, List, Ok}
-use Rattle.clap.specs.Words.{App, Rule, Row, Text, first_of, new_app, new_rule, with_rule, with_subcommand}
+use Rattle.std.specs.Prelude.{◌≡◌, ℕ, codes, true, Some, None, Option, List, [], Ok}
+use Rattle.clap.specs.Words.{App, Rule, Row, Text, fault_of, first_of, new_app, new_rule, subcommand_of, with_rule, with_subcommand}
 use Rattle.clap.specs.declared.builder.action.ArgAction.TheVariants.{Set}
+use Rattle.clap.specs.declared.error.kind.ErrorKind.{ErrorKind}
+use Rattle.clap.specs.declared.error.kind.ErrorKind.TheVariants.{OutOfMemory}
 use Rattle.hex.specs.Hex.{decode_of}
 use Rattle.uadisc.specs.TypeNames.{name_of}
 use Rattle.uadisc.specs.declared.command.Command.{Command}
 use Rattle.uadisc.specs.declared.command.Command.TheVariants.{Answer, Value}
+use Rattle.uadisc.specs.declared.command.WordsFault.{WordsFault}
+use Rattle.uadisc.specs.declared.command.WordsFault.TheVariants.{Refused, NoMemory}
 
 -- a word that has to be there
 abbrev pub word_rule : Text → Rule
@@ -42,7 +46,25 @@ abbrev pub IsValueOf : Words → Command → Type 0
 IsValueOf word Answer = ⊥
 IsValueOf word (Value kind bytes) = (word (codes "type") ≡ Some (name_of kind)) × IsHexOf bytes.items (word (codes "hex"))
 
--- the words name this command, with these values
+-- the words that clap finds name this command, with these values
 abbrev pub Asks : Option (Text × List Row) → Command → Type 0
 Asks found Answer = (rows : List Row) × (found ≡ Some (codes "answer", rows)) × IsAnswerOf (λ id. first_of id rows) Answer
 Asks found (Value kind bytes) = (rows : List Row) × (found ≡ Some (codes "value", rows)) × IsValueOf (λ id. first_of id rows) (Value kind bytes)
+
+-- Clap takes the words, and they name this command, with these values.
+pub record AsksFor (words : List Text) (c : Command) : Type 0 where
+  pub taken : fault_of uadisc words ≡ []
+  pub named : Asks (subcommand_of uadisc words) c
+
+-- what is asked for in this way is nothing, or memory ran out
+abbrev pub RefusedBy : (Command → Type 0) → WordsFault → Type 0
+RefusedBy IsAsked (Refused text) = (c : Command) → IsAsked c → ⊥
+RefusedBy IsAsked NoMemory = Unit {0}
+
+abbrev pub IsWordsFault : List Text → WordsFault → Type 0
+IsWordsFault words = RefusedBy (AsksFor words)
+
+-- clap's errors are refusals but for want of memory
+abbrev pub IsErrorFault : ErrorKind → WordsFault → Type 0
+IsErrorFault kind (Refused text) = kind ≡ OutOfMemory → ⊥
+IsErrorFault kind NoMemory = Unit {0}

@@ -4,6 +4,8 @@ pub mod Script
 pub mod Stop
 pub mod Printed
 pub mod End
+pub mod Answer
+pub mod Run
 pub mod Past
 pub mod Faults
 pub mod Replies

@@ -1,5 +1,5 @@
 -- What the command prints.
-use Rattle.std.specs.Prelude.{◌≡◌, ℕ, nat_lt, nat_le, ◌==◌, ◌&&◌, ◌/◌, ◌%◌, ◌+◌, not, if◌then◌else◌, List, ◌++◌, ◌∷◌, [], codes, length, Option, Some, None, Ok, Err}
+use Rattle.std.specs.Prelude.{◌≡◌, ℕ, nat_lt, nat_le, ◌==◌, ◌&&◌, ◌/◌, ◌%◌, ◌+◌, not, if◌then◌else◌, List, ◌++◌, ◌∷◌, [], codes, length, Option, Some, None, Ok}
 use Rattle.std.specs.List.{flat_map}
 use Rattle.std.specs.Fmt.{decimal}
 use Rattle.std.specs.Int.{w8, w16, w32, w64}

@@ -1,6 +1,8 @@
 -- The exit statuses, and what each fault of a step is to the command.
-use Rattle.std.specs.Prelude.{◌≡◌, ℕ, List, Result, Err}
-use Rattle.uadisc.specs.Script.{Timed}
+use Rattle.std.specs.Prelude.{◌≡◌, ℕ, List, ◌++◌, codes, string_bytes, Option, Err}
+use Rattle.std.specs.Fmt.{decimal}
+use Rattle.uadisc.specs.Answer.{IsInput}
+use Rattle.uadisc.specs.Script.{script_in}
 use Rattle.uadisc.specs.declared.stop.Stop.{Stop}
 use Rattle.uadisc.specs.declared.stop.Stop.TheVariants.{Words, Line, File, NoMemory}
 use Rattle.uadisc.specs.declared.command.WordsFault.{WordsFault}
@@ -29,9 +31,21 @@ abbrev pub stop_of_script : ScriptFault → Stop
 stop_of_script (script.BadLine number) = Line number
 stop_of_script script.NoMemory = NoMemory
 
--- a line that stops the command is the first bad one; another stop may come at any lines
-abbrev pub IsStopOf : Result (List Timed) ℕ → Stop → Type 0
-IsStopOf script (Line number) = script ≡ Err number
-IsStopOf script (Words text) = ⊥
-IsStopOf script File = Unit {0}
-IsStopOf script NoMemory = Unit {0}
+-- A line that stops the command is the first bad one of what the reader gave. A failed read or write, and want of memory, may come at any lines.
+abbrev pub IsInputStop : Option (List ℕ) → Stop → Type 0
+IsInputStop left (Line number) = (text : List ℕ) × IsInput left text × (script_in text ≡ Err number)
+IsInputStop left (Words text) = ⊥
+IsInputStop left File = Unit {0}
+IsInputStop left NoMemory = Unit {0}
+
+-- nothing was printed where the stop is none of a file
+abbrev pub IsQuiet : Stop → Option (List ℕ) → Option (List ℕ) → Type 0
+IsQuiet File old new = Unit {0}
+IsQuiet stop old new = new ≡ old
+
+-- what is told of a stop
+abbrev pub stop_text : Stop → List ℕ
+stop_text (Words text) = string_bytes text
+stop_text (Line number) = codes "line " ++ decimal number ++ codes "\n"
+stop_text File = codes "file\n"
+stop_text NoMemory = codes "memory\n"

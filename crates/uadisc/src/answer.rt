@@ -1,9 +1,10 @@
 //! The command `answer`: answers the pieces of a connection.
 
-ghost use Rattle.std.specs.Prelude.{◌≡◌, ◌≤◌, IfOk, IfErr, IfSome, Ok};
+ghost use Rattle.std.specs.Prelude.{◌≡◌, List, ℕ, IfOk, IfErr, Ok, Some, string_bytes};
+ghost use Rattle.uadisc.specs.Answer.{answer_lines, answered as answered_bytes, ending, end_text, status_text, stream_of, IsInput, AnswersInput};
 ghost use Rattle.uadisc.specs.End.{end_status};
 ghost use Rattle.uadisc.specs.Script.{script_in, times};
-ghost use Rattle.uadisc.specs.Stop.{IsStopOf};
+ghost use Rattle.uadisc.specs.Stop.{IsInputStop, IsQuiet};
 
 use crate::conversation::hello_all;
 use crate::input::read_whole;
@@ -29,29 +30,49 @@ const LIMITS: Limits = Limits {
 struct Ending(End);
 
 impl fmt::Display for Ending {
+    ghost output = { λ e. Some (end_text e.0) };
+
     fn fmt<W: fmt::Write>(&self, f: &mut fmt::Formatter<W>) -> fmt::Result {
         match self.0 {
             End::InputEnded => f.write_str("input-ended"),
             End::Truncated => f.write_str("truncated"),
-            End::Refused(status) => write!(f, "refused {status:08X}"),
+            End::Refused(status) => write!(f, "refused {}", Code(status)),
         }
     }
 }
 
+/// A status as eight hex digits in upper case.
+#[derive(Clone, Copy)]
+struct Code(u32);
+
+#[tactic(auto, using(crate::proofs::Codes::eight_digits))]
+impl fmt::Display for Code {
+    ghost output = { λ c. Some (status_text c.0) };
+
+    fn fmt<W: fmt::Write>(&self, f: &mut fmt::Formatter<W>) -> fmt::Result {
+        write!(f, "{:08X}", self.0)
+    }
+}
+
 /// What the pieces are answered.
-fn answered(alloc: Global, pieces: &[TimedPiece]) -> Result<HelloOutcome, NoMemory> {
+fn answered(alloc: Global, pieces: &[TimedPiece]) -> Result<HelloOutcome, NoMemory>
+    ensures reply { IfOk result (λ outcome. outcome.reply.items ≡ answered_bytes (stream_of (times pieces.now))) }
+    ensures end { IfOk result (λ outcome. outcome.end ≡ ending (stream_of (times pieces.now))) }
+{
     let mut lent: Vec<(i64, &[u8])> = Vec::new(alloc);
-    for piece in pieces {
+    'pieces: for piece in pieces {
         lent.push((piece.moment, piece.bytes.as_slice()))?;
     }
     hello_all(alloc, &LIMITS, lent.as_slice())
 }
 
 /// The reply in hex on one line, and the end on another.
-fn lines(alloc: Global, outcome: &HelloOutcome) -> Result<String, NoMemory> {
-    let reply = hex::encode(alloc, outcome.reply.as_slice())?;
-    let end = Ending(outcome.end);
-    format!(in alloc; "{reply}\nend {end}\n")
+fn lines(alloc: Global, reply: &[u8], end: End) -> Result<String, NoMemory>
+    ensures { IfOk result (λ text. string_bytes text ≡ answer_lines reply.now end) }
+{
+    let mut text = hex::encode(alloc, reply)?;
+    writeln!(text, "\nend {}", Ending(end))?;
+    Ok(text)
 }
 
 /// The exit status of an end: 0 where the input ended behind a whole frame, else 1.
@@ -66,8 +87,8 @@ fn status_of(end: End) -> u8
 
 /// The pieces that the lines of the whole input give, or the number of the first bad line.
 fn pieces_in<I: Read>(alloc: Global, input: &mut I) -> Result<Vec<TimedPiece>, Stop>
-    ensures ok { IfOk result (λ pieces. IfSome (I.remaining input.old) (λ text. script_in text ≡ Ok (times pieces.items))) }
-    ensures err { IfErr result (λ stop. IfSome (I.remaining input.old) (λ text. IsStopOf (script_in text) stop)) }
+    ensures ok { IfOk result (λ pieces. (text : List ℕ) × IsInput (I.remaining input.old) text × (script_in text ≡ Ok (times pieces.items))) }
+    ensures err { IfErr result (IsInputStop (I.remaining input.old)) }
 {
     let text = read_whole(alloc, input)?;
     let pieces = script_of(alloc, text.as_slice())?;
@@ -80,11 +101,13 @@ fn pieces_in<I: Read>(alloc: Global, input: &mut I) -> Result<Vec<TimedPiece>, S
 /// Nothing is printed before the input was read to its end, all of its lines were understood and
 /// the lines of the answer are made.
 pub fn answer<I: Read, O: Write>(alloc: Global, input: &mut I, output: &mut O) -> Result<u8, Stop>
-    ensures { IfOk result (λ status. status ≤ 1) }
+    ensures ok { IfOk result (AnswersInput (I.remaining input.old) (O.contents output.old) (O.contents output.new)) }
+    ensures err { IfErr result (IsInputStop (I.remaining input.old)) }
+    ensures quiet { IfErr result (λ stop. IsQuiet stop (O.contents output.old) (O.contents output.new)) }
 {
     let pieces = pieces_in(alloc, input)?;
     let outcome = answered(alloc, pieces.as_slice())?;
-    let lines = lines(alloc, &outcome)?;
+    let lines = lines(alloc, outcome.reply.as_slice(), outcome.end)?;
     print(output, lines.as_str())?;
     Ok(status_of(outcome.end))
 }

@@ -1,9 +1,10 @@
 //! The words of the command.
 
-ghost use Rattle.std.specs.Prelude.{◌≡◌, IfOk, IfSome, false, map};
-ghost use Rattle.clap.specs.Words.{app_of, rule_of, subcommand_of, subcommand_rows_of, first_value, found_of};
+ghost use Rattle.std.specs.Prelude.{◌≡◌, IfOk, IfErr, false, map};
+ghost use Rattle.clap.specs.Words.{app_of, rule_of, subcommand_rows_of, first_value, found_of};
 ghost use Rattle.clap.specs.declared.builder.command.Command.TheViews.{out-Command};
-ghost use Rattle.uadisc.specs.Command.{Asks, IsAnswerOf, IsValueOf, word_rule, answer_app, value_app, uadisc};
+ghost use Rattle.clap.specs.Values.{kind_of};
+ghost use Rattle.uadisc.specs.Command.{Asks, AsksFor, IsWordsFault, IsErrorFault, RefusedBy, IsAnswerOf, IsValueOf, word_rule, answer_app, value_app, uadisc};
 
 use crate::type_name::{TypeName, of_name};
 use clap::error::ErrorKind;
@@ -71,7 +72,8 @@ fn parser<'a>(alloc: Global) -> Result<Parser<'a>, AllocError>
 /// help, and `words` where it takes them and a word is none that it may be: settings other than
 /// `default`, a type that has no such name, or hex that is none. The call changes nothing.
 pub fn command_of(alloc: Global, words: &[&str]) -> Result<Command, WordsFault>
-    ensures { IfOk result (Asks (subcommand_of uadisc (map (λ w. w.now) words.entry.now))) }
+    ensures asked { IfOk result (AsksFor (map (λ w. w.now) words.entry.now)) }
+    ensures refused { IfErr result (IsWordsFault (map (λ w. w.now) words.entry.now)) }
 {
     let Ok(parser) = parser(alloc) else {
         return Err(WordsFault::NoMemory);
@@ -82,7 +84,9 @@ pub fn command_of(alloc: Global, words: &[&str]) -> Result<Command, WordsFault>
     }
 }
 
-fn refused(alloc: Global, error: clap::Error) -> WordsFault {
+fn refused(alloc: Global, error: clap::Error) -> WordsFault
+    ensures { IsErrorFault (kind_of error) result }
+{
     if error.kind() == ErrorKind::OutOfMemory {
         return WordsFault::NoMemory;
     }
@@ -101,7 +105,8 @@ fn bad_word(alloc: Global) -> WordsFault {
 }
 
 fn command_in(alloc: Global, matches: &ArgMatches) -> Result<Command, WordsFault>
-    ensures { IfOk result (Asks (subcommand_rows_of matches.now)) }
+    ensures asked { IfOk result (Asks (subcommand_rows_of matches.now)) }
+    ensures refused { IfErr result (RefusedBy (Asks (subcommand_rows_of matches.now))) }
 {
     let Some((name, inner)) = matches.subcommand() else {
         return Err(bad_word(alloc));
@@ -114,7 +119,8 @@ fn command_in(alloc: Global, matches: &ArgMatches) -> Result<Command, WordsFault
 }
 
 fn answer_in(alloc: Global, matches: &ArgMatches) -> Result<Command, WordsFault>
-    ensures { IfOk result (IsAnswerOf (first_value (found_of matches.now))) }
+    ensures asked { IfOk result (IsAnswerOf (first_value (found_of matches.now))) }
+    ensures refused { IfErr result (RefusedBy (IsAnswerOf (first_value (found_of matches.now)))) }
 {
     match matches.get_str("settings") {
         Some("default") => Ok(Command::Answer),
@@ -123,7 +129,8 @@ fn answer_in(alloc: Global, matches: &ArgMatches) -> Result<Command, WordsFault>
 }
 
 fn value_in(alloc: Global, matches: &ArgMatches) -> Result<Command, WordsFault>
-    ensures { IfOk result (IsValueOf (first_value (found_of matches.now))) }
+    ensures asked { IfOk result (IsValueOf (first_value (found_of matches.now))) }
+    ensures refused { IfErr result (RefusedBy (IsValueOf (first_value (found_of matches.now)))) }
 {
     let Some(name) = matches.get_str("type") else {
         return Err(bad_word(alloc));

@@ -1,13 +1,16 @@
 //! What the command does, over any reader and writers.
 
-ghost use Rattle.std.specs.Prelude.{◌≡◌, ◌≤◌, IfOk};
-ghost use Rattle.uadisc.specs.Stop.{status_of};
+ghost use Rattle.std.specs.Prelude.{◌≡◌, map, IfOk, IfErr, OnOk};
+ghost use Rattle.std.specs.Io.KnownBytes.{Appends};
+ghost use Rattle.uadisc.specs.Run.{Done, IsStop, Runs};
+ghost use Rattle.uadisc.specs.Stop.{status_of, stop_text, IsQuiet};
 
 use crate::answer::answer;
 use crate::command::{Command, command_of};
 use crate::stop::Stop;
 use crate::value::value;
 use std::alloc::Global;
+use std::io;
 use std::io::{Read, Write};
 
 #[cfg(test)]
@@ -22,7 +25,7 @@ where
     I: Read,
     O: Write,
     E: Write,
-    ensures { result ≤ 4 }
+    ensures { Runs (map (λ w. w.now) words.entry.now) (I.remaining input.old) (O.contents output.old) (O.contents output.new) (E.contents errors.old) (E.contents errors.new) result }
 {
     match done(rt.alloc(), words, input, output) {
         Ok(status) => status,
@@ -34,9 +37,18 @@ where
 pub fn told<E: Write>(stop: &Stop, errors: &mut E) -> u8
     ensures { result ≡ status_of stop.now }
 {
-    let _ = write!(errors, "{stop}");
+    let _ = tell(stop, errors);
     stop.status()
 }
+
+/// Tells what stopped the command. After an error a beginning of it may stand there.
+fn tell<E: Write>(stop: &Stop, errors: &mut E) -> io::Result<()>
+    ensures { OnOk result (Appends (E.contents errors.old) (E.contents errors.new) (stop_text stop.now)) }
+{
+    write!(errors, "{stop}")
+}
+
+/// Does what the words ask for.
 
 fn done<I: Read, O: Write>(
     alloc: Global,
@@ -44,7 +56,9 @@ fn done<I: Read, O: Write>(
     input: &mut I,
     output: &mut O,
 ) -> Result<u8, Stop>
-    ensures { IfOk result (λ status. status ≤ 1) }
+    ensures done { IfOk result (Done (map (λ w. w.now) words.entry.now) (I.remaining input.old) (O.contents output.old) (O.contents output.new)) }
+    ensures err { IfErr result (IsStop (map (λ w. w.now) words.entry.now) (I.remaining input.old)) }
+    ensures quiet { IfErr result (λ stop. IsQuiet stop (O.contents output.old) (O.contents output.new)) }
 {
     match command_of(alloc, words)? {
         Command::Answer => answer(alloc, input, output),

@@ -1,8 +1,8 @@
 //! Why the command stops before it is done.
 
-ghost use Rattle.std.specs.Prelude.{◌≡◌, ◌≤◌, OnOk, IfErr};
+ghost use Rattle.std.specs.Prelude.{◌≡◌, Some, OnOk, IfErr};
 ghost use Rattle.std.specs.Io.KnownBytes.{Appends};
-ghost use Rattle.uadisc.specs.Stop.{status_of, stop_of_words, stop_of_input, stop_of_script};
+ghost use Rattle.uadisc.specs.Stop.{status_of, stop_text, stop_of_words, stop_of_input, stop_of_script};
 ghost use Rattle.uadisc.specs.declared.stop.Stop.TheVariants.{NoMemory as OutOfMemory};
 
 use crate::command::WordsFault;
@@ -40,6 +40,8 @@ impl Stop {
 }
 
 impl fmt::Display for Stop {
+    ghost output = { λ stop. Some (stop_text stop) };
+
     fn fmt<W: fmt::Write>(&self, f: &mut fmt::Formatter<W>) -> fmt::Result {
         match self {
             Stop::Words(text) => write!(f, "{text}"),

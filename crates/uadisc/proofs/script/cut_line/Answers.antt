@@ -1,4 +1,4 @@
-use Rattle.std.proofs.Common.{sym, ◌==◌, ◌∙◌}
+use Rattle.std.proofs.Common.{sym, ◌==◌}
 use Rattle.uadisc.proofs.Lines.{cut_none, cut_some}
 use Rattle.uadisc.proofs.script.cut_line.Goals as goal
 

@@ -1,5 +1,4 @@
-use Rattle.std.proofs.Common.{sym, ◌==◌, ◌∙◌, ◌<◌, length, arith, rules}
-use Rattle.std.specs.Str.Parse.{ParsesUnsigned}
+use Rattle.std.proofs.Common.{sym, ◌<◌, length, rules}
 use Rattle.uadisc.proofs.Lines.{digits_text, no_moment}
 use Rattle.uadisc.proofs.script.moment_of.Goals as goal
 

@@ -1,0 +1,56 @@
+-- What the command `answer` prints, and its exit status.
+use Rattle.std.specs.Prelude.{◌≡◌, ℕ, ◌-◌, true, List, ◌++◌, map, length, replicate, codes, Option, Ok, IfSome}
+use Rattle.std.specs.Fmt.{digits}
+use Rattle.std.specs.Io.KnownBytes.{Appends}
+use Rattle.hex.specs.Hex.{encode_lower}
+use Rattle.ua_frame.specs.Streams.{Piece, TimedByte, moment_of, timed}
+use Rattle.ua_frame.specs.declared.limits.Limits.{Limits}
+use Rattle.uadisc.specs.End.{end_status}
+use Rattle.uadisc.specs.Replies.{reply_bytes, end_of}
+use Rattle.uadisc.specs.Script.{Timed, script_in}
+use Rattle.uadisc.specs.declared.outcome.End.{End}
+use Rattle.uadisc.specs.declared.outcome.End.TheVariants.{InputEnded, Truncated, Refused}
+
+-- the limits of the built-in settings
+abbrev pub default_limits : Limits
+default_limits = record { receive = 65535; send = 65535; max_message = 1048576; max_chunks = 64 }
+
+-- what a server of the built-in settings answers to a stream, and how it ends
+abbrev pub answered : List TimedByte → List ℕ
+answered s = reply_bytes default_limits s
+
+abbrev pub ending : List TimedByte → End
+ending s = end_of default_limits s
+
+abbrev pub piece_of : Timed → Piece
+piece_of p = record { moment = moment_of p.0; bytes = p.1 }
+
+-- the stream that the pieces of a script bring
+abbrev pub stream_of : List Timed → List TimedByte
+stream_of pieces = timed (map piece_of pieces)
+
+-- a status as eight hex digits in upper case
+abbrev pub status_text : ℕ → List ℕ
+status_text status = replicate (8 - length (digits 16 true status)) 48 ++ digits 16 true status
+
+abbrev pub end_text : End → List ℕ
+end_text InputEnded = codes "input-ended"
+end_text Truncated = codes "truncated"
+end_text (Refused status) = codes "refused " ++ status_text status
+
+-- the reply in hex on one line, and the end on another
+abbrev pub answer_lines : List ℕ → End → List ℕ
+answer_lines reply end = encode_lower reply ++ codes "\nend " ++ end_text end ++ codes "\n"
+
+-- The text that a reader gave: the bytes that it had left, where those are known.
+abbrev pub IsInput : Option (List ℕ) → List ℕ → Type 0
+IsInput left text = IfSome left (λ bytes. text ≡ bytes)
+
+-- the lines that answer these pieces stand behind what the writer held, and the status is that of their end
+pub record Answers (pieces : List Timed) (old new : Option (List ℕ)) (status : ℕ) : Type 0 where
+  pub printed : Appends old new (answer_lines (answered (stream_of pieces)) (ending (stream_of pieces)))
+  pub status_is : status ≡ end_status (ending (stream_of pieces))
+
+-- the pieces that the reader's lines give are answered
+abbrev pub AnswersInput : Option (List ℕ) → Option (List ℕ) → Option (List ℕ) → ℕ → Type 0
+AnswersInput left old new status = (text : List ℕ) × (pieces : List Timed) × IsInput left text × (script_in text ≡ Ok pieces) × Answers pieces old new status
