@@ -253,6 +253,3 @@ impl DiagnosticInfo {
         }
     }
 }
-
-#[cfg(test)]
-mod tests;

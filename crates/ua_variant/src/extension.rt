@@ -107,6 +107,3 @@ impl Wire for ExtensionObject {
 
     ghost laws = { lawful_extension_object };
 }
-
-#[cfg(test)]
-mod tests;

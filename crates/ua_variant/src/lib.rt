@@ -17,6 +17,8 @@ mod picoseconds;
 mod reading;
 mod shape;
 mod stamps;
+#[cfg(test)]
+mod tests;
 mod variant;
 mod wire;
 mod writing;

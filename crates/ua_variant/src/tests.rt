@@ -1,0 +1,81 @@
+//! What no clause says: that the formats are those of the standard, that calls succeed where memory is there, and that the greatest depth fits the
+//! stack.
+
+mod deep;
+mod made;
+mod memory;
+mod rows;
+
+use crate::{Element, Kind, Variant, VariantFault};
+use std::alloc::Global;
+use std::process::Abort;
+use std::test::Fail;
+use ua_value::{NoMemory, ReadFault, Wire};
+
+ghost use Rattle.std.specs.Prelude.{IfOk, Some};
+ghost use Rattle.ua_variant.specs.Lists.{IsShortList};
+ghost use Rattle.ua_variant.specs.View.{items_in};
+
+/// The value that the bytes spell, as every call of its type sees it: `canon` is written for it, also for a copy, and no shorter beginning spells a
+/// value.
+fn reads<T: Wire>(
+    rt: &impl Abort,
+    alloc: Global,
+    bytes: &[u8],
+    used: usize,
+    canon: &[u8],
+) -> Result<T, Fail> {
+    assert!(rt; bytes.len() <= 1000);
+    let (value, taken) = T::read(alloc, bytes)?;
+    assert_eq!(rt; taken, used, "of {bytes:?}");
+    writes(rt, alloc, &value, canon)?;
+    for end in 0..taken {
+        refuses::<T>(rt, alloc, &bytes[..end]);
+    }
+    Ok(value)
+}
+
+/// No beginning of the bytes spells a value.
+fn refuses<T: Wire>(rt: &impl Abort, alloc: Global, bytes: &[u8]) {
+    assert!(rt; bytes.len() <= 1000);
+    assert!(rt;
+        matches!(T::read(alloc, bytes), Err(ReadFault::Refused)),
+        "{bytes:?}"
+    );
+}
+
+/// The value and a copy of it are written as the bytes.
+fn writes<T: Wire>(rt: &impl Abort, alloc: Global, value: &T, canon: &[u8]) -> Result<(), Fail> {
+    assert_eq!(rt; value.len(), canon.len() as u64);
+    let mut out = Vec::new(alloc);
+    value.write(&mut out)?;
+    assert_eq!(rt; out.as_slice(), canon);
+    let mut copied = Vec::new(alloc);
+    value.copy()?.write(&mut copied)?;
+    assert_eq!(rt; copied.as_slice(), canon);
+    Ok(())
+}
+
+/// The elements as a list.
+fn list_of_two(
+    rt: &impl Abort,
+    alloc: Global,
+    first: Element,
+    second: Element,
+) -> Result<Vec<Element>, NoMemory>
+    ensures { IfOk result (λ v. IsShortList (items_in (Some v))) }
+{
+    assert!(rt; first.len() <= 1000 && second.len() <= 1000);
+    Ok(vec![in alloc; first, second]?)
+}
+
+/// The array of one element, without dimensions.
+fn array_of_one(
+    rt: &impl Abort,
+    alloc: Global,
+    kind: Kind,
+    element: Element,
+) -> Result<Variant, VariantFault> {
+    assert!(rt; element.len() <= 1000);
+    Variant::array(kind, Some(vec![in alloc; element]?), None)
+}

@@ -1,0 +1,1 @@
+//! Each public call once, with memory.
