@@ -6,15 +6,15 @@ mod made;
 mod memory;
 mod rows;
 
-use crate::{Element, Kind, Variant, VariantFault};
-use std::alloc::Global;
-use std::process::Abort;
-use std::test::Fail;
-use ua_value::{NoMemory, ReadFault, Wire};
-
 ghost use Rattle.std.specs.Prelude.{IfOk, Some};
 ghost use Rattle.ua_variant.specs.Lists.{IsShortList};
 ghost use Rattle.ua_variant.specs.View.{items_in};
+
+use crate::{DataValue, DiagnosticInfo, Element, Kind, Variant, VariantFault};
+use std::alloc::Global;
+use std::process::Abort;
+use std::test::Fail;
+use ua_value::{NoMemory, ReadFault, UaString, Wire};
 
 /// The value that the bytes spell, as every call of its type sees it: `canon` is written for it, also for a copy, and no shorter beginning spells a
 /// value.
@@ -78,4 +78,30 @@ fn array_of_one(
 ) -> Result<Variant, VariantFault> {
     assert!(rt; element.len() <= 1000);
     Variant::array(kind, Some(vec![in alloc; element]?), None)
+}
+
+/// The DataValue of a value alone.
+fn data_of(alloc: Global, value: Variant) -> Result<DataValue, VariantFault> {
+    DataValue::new(alloc, Some(value), None, None, None, None, None)
+}
+
+/// The DiagnosticInfo of no part, or of an inner one alone.
+fn around(alloc: Global, inner: Option<DiagnosticInfo>) -> Result<DiagnosticInfo, VariantFault> {
+    let none = UaString::null();
+    DiagnosticInfo::new(alloc, None, None, None, None, none, None, inner)
+}
+
+/// The value in a Variant's list.
+fn element_of(alloc: Global, value: Variant) -> Result<Element, VariantFault> {
+    Ok(Element::Variant(Box::new(alloc, value)?))
+}
+
+/// DataValues and Variants by turns round the null Variant, 99 deep.
+fn variant_of_99(alloc: Global) -> Result<Variant, VariantFault> {
+    let mut value = Variant::null();
+    for _ in 0..49 {
+        let data = data_of(alloc, value)?;
+        value = Variant::scalar(Element::DataValue(Box::new(alloc, data)?))?;
+    }
+    Ok(value)
 }

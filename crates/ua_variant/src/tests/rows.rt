@@ -8,11 +8,7 @@ use std::test::Fail;
 use ua_value::{DateTime, StatusCode, Wire};
 
 /// Each of the bytes spell a value for which the others are written.
-fn read_rows<T: Wire>(
-    rt: &impl Abort,
-    alloc: Global,
-    rows: &[(&[u8], &[u8])],
-) -> Result<(), Fail> {
+fn read_rows<T: Wire>(rt: &impl Abort, alloc: Global, rows: &[(&[u8], &[u8])]) -> Result<(), Fail> {
     for (bytes, canon) in rows {
         reads::<T>(rt, alloc, bytes, bytes.len(), canon)?;
     }
@@ -43,11 +39,7 @@ const EXTENSIONS: [(&[u8], &[u8]); 5] = [
     ),
 ];
 
-const NO_EXTENSIONS: [&[u8]; 3] = [
-    &[0, 0x48, 2, 1, 0, 0, 0, 0xff],
-    &[0, 0x48, 3],
-    &[6, 0, 0],
-];
+const NO_EXTENSIONS: [&[u8]; 3] = [&[0, 0x48, 2, 1, 0, 0, 0, 0xff], &[0, 0x48, 3], &[6, 0, 0]];
 
 #[test]
 fn extension_objects_keep_their_body(rt: HostRuntime) -> Result<(), Fail> {
@@ -108,9 +100,7 @@ const SINGLES: [(Kind, &[u8]); 24] = [
     (Kind::DateTime, &[0x0d, 1, 2, 3, 4, 5, 6, 7, 8]),
     (
         Kind::Guid,
-        &[
-            0x0e, 1, 2, 3, 4, 5, 6, 7, 8, 9, 10, 11, 12, 13, 14, 15, 16,
-        ],
+        &[0x0e, 1, 2, 3, 4, 5, 6, 7, 8, 9, 10, 11, 12, 13, 14, 15, 16],
     ),
     (Kind::ByteString, &[0x0f, 2, 0, 0, 0, 0xaa, 0xbb]),
     (Kind::XmlElement, &[0x10, 0xff, 0xff, 0xff, 0xff]),
@@ -267,9 +257,17 @@ fn data_values_keep_what_is_flagged(rt: HostRuntime) -> Result<(), Fail> {
     refused_rows::<DataValue>(&rt, alloc, &[&[0x40], &[0x80], &[0x01, 0x18, 0]]);
     read_rows::<DataValue>(&rt, alloc, &SOME_DATA)?;
     let nested: &[u8] = &[0x01, 0x97, 1, 0, 0, 0, 0x01, 0];
-    assert_eq!(rt; reads::<DataValue>(&rt, alloc, nested, 8, nested)?.depth(), 4);
+    assert_eq!(rt;
+        reads::<DataValue>(&rt, alloc, nested, 8, nested)?.depth(),
+        4
+    );
     let data = reads::<DataValue>(&rt, alloc, &DATA, 30, &DATA)?;
-    assert!(rt; matches!(data.value().and_then(|v| v.value()), Some(Element::Int32(1))));
+    assert!(rt;
+        matches!(
+            data.value().and_then(|v| v.value()),
+            Some(Element::Int32(1))
+        )
+    );
     assert_eq!(rt; data.status(), Some(StatusCode(0x800b_0000)));
     assert_eq!(rt; data.source_timestamp(), Some(DateTime(2)));
     assert_eq!(rt; data.source_picoseconds(), Some(3));
