@@ -6,7 +6,8 @@ mod made;
 mod memory;
 mod rows;
 
-ghost use Rattle.std.specs.Prelude.{IfOk, Some};
+ghost use Rattle.std.specs.Prelude.{◌≤◌, length, IfOk, IfSome, Some};
+ghost use Rattle.ua_value.specs.Text.{longest};
 ghost use Rattle.ua_variant.specs.Lists.{IsShortList};
 ghost use Rattle.ua_variant.specs.View.{items_in};
 
@@ -56,6 +57,21 @@ fn writes<T: Wire>(rt: &impl Abort, alloc: Global, value: &T, canon: &[u8]) -> R
     Ok(())
 }
 
+/// What was made is written as the bytes, and so is a copy.
+fn made_as<T: Wire>(
+    rt: &impl Abort,
+    alloc: Global,
+    made: Result<T, VariantFault>,
+    canon: &[u8],
+) -> Result<(), Fail> {
+    writes(rt, alloc, &made?, canon)
+}
+
+/// Nothing was made, for the reason.
+fn not_made<T: Drop>(rt: &impl Abort, made: Result<T, VariantFault>, reason: VariantFault) {
+    assert_eq!(rt; made.err(), Some(reason));
+}
+
 /// The elements as a list.
 fn list_of_two(
     rt: &impl Abort,
@@ -69,20 +85,33 @@ fn list_of_two(
     Ok(vec![in alloc; first, second]?)
 }
 
-/// The array of one element, without dimensions.
+/// The array of one element.
 fn array_of_one(
     rt: &impl Abort,
     alloc: Global,
     kind: Kind,
     element: Element,
-) -> Result<Variant, VariantFault> {
+    dimensions: Option<Vec<i32>>,
+) -> Result<Variant, VariantFault>
+    requires { IfSome dimensions (λ v. length v.items ≤ longest) }
+{
     assert!(rt; element.len() <= 1000);
-    Variant::array(kind, Some(vec![in alloc; element]?), None)
+    Variant::array(kind, Some(vec![in alloc; element]?), dimensions)
+}
+
+/// A Variant in a list.
+fn element_of(alloc: Global, value: Variant) -> Result<Element, VariantFault> {
+    Ok(Element::Variant(Box::new(alloc, value)?))
 }
 
 /// The DataValue of a value alone.
 fn data_of(alloc: Global, value: Variant) -> Result<DataValue, VariantFault> {
     DataValue::new(alloc, Some(value), None, None, None, None, None)
+}
+
+/// The Variant of one DataValue.
+fn scalar_of(alloc: Global, value: DataValue) -> Result<Variant, VariantFault> {
+    Variant::scalar(Element::DataValue(Box::new(alloc, value)?))
 }
 
 /// The DiagnosticInfo of no part, or of an inner one alone.
@@ -91,17 +120,17 @@ fn around(alloc: Global, inner: Option<DiagnosticInfo>) -> Result<DiagnosticInfo
     DiagnosticInfo::new(alloc, None, None, None, None, none, None, inner)
 }
 
-/// The value in a Variant's list.
-fn element_of(alloc: Global, value: Variant) -> Result<Element, VariantFault> {
-    Ok(Element::Variant(Box::new(alloc, value)?))
-}
-
 /// DataValues and Variants by turns round the null Variant, 99 deep.
 fn variant_of_99(alloc: Global) -> Result<Variant, VariantFault> {
     let mut value = Variant::null();
     for _ in 0..49 {
-        let data = data_of(alloc, value)?;
-        value = Variant::scalar(Element::DataValue(Box::new(alloc, data)?))?;
+        value = scalar_of(alloc, data_of(alloc, value)?)?;
     }
     Ok(value)
+}
+
+/// An array of one Variant, 100 deep.
+fn array_of_100(rt: &impl Abort, alloc: Global) -> Result<Variant, VariantFault> {
+    let inside = element_of(alloc, variant_of_99(alloc)?)?;
+    array_of_one(rt, alloc, Kind::Variant, inside, None)
 }

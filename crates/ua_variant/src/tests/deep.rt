@@ -1,6 +1,9 @@
 //! The greatest depth: what every call makes of it, and that its stack holds.
 
-use super::{around, array_of_one, data_of, element_of, reads, refuses, variant_of_99, writes};
+use super::{
+    around, array_of_100, array_of_one, data_of, element_of, made_as, not_made, reads, refuses,
+    scalar_of, variant_of_99,
+};
 use crate::{DataValue, DiagnosticInfo, Element, Kind, Variant, VariantFault};
 use std::alloc::Global;
 use std::process::Abort;
@@ -63,41 +66,57 @@ fn a_hundred_levels_are_read_and_no_more(rt: HostRuntime) -> Result<(), Fail> {
     are_too_deep::<DiagnosticInfo>(&rt, alloc, &[(&[], &[0x40], 100, &[0])])
 }
 
-#[test]
-fn a_hundred_levels_are_made_and_no_more(rt: HostRuntime) -> Result<(), Fail> {
-    let alloc = rt.alloc();
-    let value = variant_of_99(alloc)?;
-    assert_eq!(rt; value.depth(), 99);
-    let data = data_of(alloc, value.copy()?)?;
-    assert_eq!(rt; data.depth(), 100);
-    let bytes = nested(alloc, &(&[], &[0x01, 0x17], 49, &[0x01, 0]))?;
-    writes(&rt, alloc, &data, &bytes)?;
-    let one = Variant::scalar(Element::DataValue(Box::new(alloc, data)?));
-    assert_eq!(rt; one.err(), Some(VariantFault::TooDeep));
-    let array = array_of_one(&rt, alloc, Kind::Variant, element_of(alloc, value)?)?;
-    assert_eq!(rt; array.depth(), 100);
-    let bytes = nested(alloc, &(ARRAY, &[0x17, 0x01], 49, &[0]))?;
-    writes(&rt, alloc, &array, &bytes)?;
-    let data = data_of(alloc, array.copy()?);
-    assert_eq!(rt; data.err(), Some(VariantFault::TooDeep));
-    let array = array_of_one(&rt, alloc, Kind::Variant, element_of(alloc, array)?);
-    assert_eq!(rt; array.err(), Some(VariantFault::TooDeep));
-    Ok(())
+fn data_of_100(alloc: Global) -> Result<DataValue, VariantFault> {
+    data_of(alloc, variant_of_99(alloc)?)
 }
 
-#[test]
-fn a_hundred_diagnostics_are_made_and_no_more(rt: HostRuntime) -> Result<(), Fail> {
-    let alloc = rt.alloc();
+/// DiagnosticInfos of no part in one another, 100 deep.
+fn diagnostics_of_100(alloc: Global) -> Result<DiagnosticInfo, VariantFault> {
     let mut value = around(alloc, None)?;
     for _ in 1..100 {
         value = around(alloc, Some(value))?;
     }
-    assert_eq!(rt; value.depth(), 100);
+    Ok(value)
+}
+
+#[test]
+fn a_hundred_levels_are_made(rt: HostRuntime) -> Result<(), Fail> {
+    let alloc = rt.alloc();
+    let bytes = nested(alloc, &(&[], &[0x01, 0x17], 49, &[0x01, 0]))?;
+    made_as(&rt, alloc, data_of_100(alloc), &bytes)?;
+    let bytes = nested(alloc, &(ARRAY, &[0x17, 0x01], 49, &[0]))?;
+    made_as(&rt, alloc, array_of_100(&rt, alloc), &bytes)?;
     let bytes = nested(alloc, &(&[], &[0x40], 99, &[0]))?;
-    writes(&rt, alloc, &value, &bytes)?;
-    let one = Variant::scalar(Element::DiagnosticInfo(value.copy()?));
-    assert_eq!(rt; one.err(), Some(VariantFault::TooDeep));
-    let more = around(alloc, Some(value));
-    assert_eq!(rt; more.err(), Some(VariantFault::TooDeep));
-    Ok(())
+    made_as(&rt, alloc, diagnostics_of_100(alloc), &bytes)
+}
+
+fn scalar_of_101(alloc: Global) -> Result<Variant, VariantFault> {
+    scalar_of(alloc, data_of_100(alloc)?)
+}
+
+fn scalar_of_diagnostics(alloc: Global) -> Result<Variant, VariantFault> {
+    Variant::scalar(Element::DiagnosticInfo(diagnostics_of_100(alloc)?))
+}
+
+fn array_of_101(rt: &impl Abort, alloc: Global) -> Result<Variant, VariantFault> {
+    let inside = element_of(alloc, array_of_100(rt, alloc)?)?;
+    array_of_one(rt, alloc, Kind::Variant, inside, None)
+}
+
+fn data_of_101(rt: &impl Abort, alloc: Global) -> Result<DataValue, VariantFault> {
+    data_of(alloc, array_of_100(rt, alloc)?)
+}
+
+fn diagnostics_of_101(alloc: Global) -> Result<DiagnosticInfo, VariantFault> {
+    around(alloc, Some(diagnostics_of_100(alloc)?))
+}
+
+#[test]
+fn no_more_levels_are_made(rt: HostRuntime) {
+    let alloc = rt.alloc();
+    not_made(&rt, scalar_of_101(alloc), VariantFault::TooDeep);
+    not_made(&rt, scalar_of_diagnostics(alloc), VariantFault::TooDeep);
+    not_made(&rt, array_of_101(&rt, alloc), VariantFault::TooDeep);
+    not_made(&rt, data_of_101(&rt, alloc), VariantFault::TooDeep);
+    not_made(&rt, diagnostics_of_101(alloc), VariantFault::TooDeep);
 }

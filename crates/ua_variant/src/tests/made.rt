@@ -1,65 +1,61 @@
 //! Each public call once, with memory, and why constructors refuse.
 
+ghost use Rattle.std.specs.Prelude.{◌≤◌, length, IfOk, IfSome};
+ghost use Rattle.ua_value.specs.Text.{longest};
+
 use super::rows::{DATA, DIAGNOSTICS};
-use super::{around, array_of_one, element_of, list_of_two, variant_of_99, writes};
+use super::{around, array_of_100, array_of_one, element_of, list_of_two, made_as, not_made};
 use crate::{DataValue, DiagnosticInfo, Element, Kind, Variant, VariantFault};
 use std::alloc::Global;
 use std::process::Abort;
 use std::test::Fail;
-use ua_value::{DateTime, StatusCode, UaString, Wire};
+use ua_value::{DateTime, NoMemory, StatusCode, UaString, Wire};
 
 /// Two Int32, with the dimensions 2 and 1.
 const ARRAY: [u8; 25] = [
     0xc6, 2, 0, 0, 0, 1, 0, 0, 0, 2, 0, 0, 0, 2, 0, 0, 0, 2, 0, 0, 0, 1, 0, 0, 0,
 ];
 
-#[test]
-fn variants_keep_what_they_are_given(rt: HostRuntime) -> Result<(), Fail> {
-    let alloc = rt.alloc();
-    let null = Variant::null();
-    writes(&rt, alloc, &null, &[0])?;
+fn holds_nothing(rt: &impl Abort, null: &Variant) {
     assert!(rt; null.is_null() && null.kind().is_none() && null.value().is_none());
-    assert!(rt; null.elements().is_none() && null.dimensions().is_none());
-    let one = Element::Int32(1);
-    assert_eq!(rt; (one.len(), one.depth()), (4, 0));
-    let one = Variant::scalar(one)?;
-    writes(&rt, alloc, &one, &[0x06, 1, 0, 0, 0])?;
-    assert!(rt; matches!(one.value(), Some(Element::Int32(1))));
-    let elements = list_of_two(&rt, alloc, Element::Int32(1), Element::Int32(2))?;
-    let array = Variant::array(Kind::Int32, Some(elements), Some([2, 1].to_vec(alloc)?))?;
-    writes(&rt, alloc, &array, &ARRAY)?;
-    assert_eq!(rt; array.dimensions(), Some([2, 1].as_slice()));
-    assert_eq!(rt; (null.depth(), one.depth(), array.depth()), (1, 1, 1));
-    let array = Variant::array(Kind::Byte, None, None)?;
-    writes(&rt, alloc, &array, &[0x83, 0xff, 0xff, 0xff, 0xff])?;
-    assert_eq!(rt; Kind::named(26), Some(Kind::ByteString));
-    assert_eq!(rt; Kind::named(32), None);
-    assert_eq!(rt; Kind::ByteString.number(), 15);
-    Ok(())
+    assert!(rt; null.elements().is_none() && null.dimensions().is_none() && null.depth() == 1);
+}
+
+fn is_flat(rt: &impl Abort, element: &Element, len: u64) {
+    assert!(rt; element.len() == len && element.depth() == 0);
+}
+
+fn array_of_two(rt: &impl Abort, alloc: Global) -> Result<Variant, VariantFault> {
+    let dimensions = [2, 1].to_vec(alloc)?;
+    let elements = list_of_two(rt, alloc, Element::Int32(1), Element::Int32(2))?;
+    Variant::array(Kind::Int32, Some(elements), Some(dimensions))
 }
 
 #[test]
-fn data_values_and_diagnostics_keep_what_they_are_given(rt: HostRuntime) -> Result<(), Fail> {
+fn variants_hold_what_they_are_given(rt: HostRuntime) -> Result<(), Fail> {
     let alloc = rt.alloc();
-    let none = DataValue::new(alloc, None, None, None, None, None, None)?;
-    writes(&rt, alloc, &none, &[0])?;
+    holds_nothing(&rt, &Variant::null());
+    is_flat(&rt, &Element::Int32(1), 4);
+    let one = Variant::scalar(Element::Int32(1));
+    made_as(&rt, alloc, Ok(Variant::null()), &[0])?;
+    made_as(&rt, alloc, one, &[0x06, 1, 0, 0, 0])?;
+    made_as(&rt, alloc, array_of_two(&rt, alloc), &ARRAY)?;
+    let null = Variant::array(Kind::Byte, None, None);
+    made_as(&rt, alloc, null, &[0x83, 0xff, 0xff, 0xff, 0xff])
+}
+
+fn data_of_each_part(alloc: Global) -> Result<DataValue, VariantFault> {
+    let value = Variant::scalar(Element::Int32(1))?;
     let status = Some(StatusCode(0x800b_0000));
-    let data = DataValue::new(
-        alloc,
-        Some(Variant::scalar(Element::Int32(1))?),
-        status,
-        Some(DateTime(2)),
-        Some(3),
-        Some(DateTime(4)),
-        Some(5),
-    )?;
-    writes(&rt, alloc, &data, &DATA)?;
-    assert_eq!(rt; (none.depth(), data.depth()), (1, 2));
-    let none = around(alloc, None)?;
-    writes(&rt, alloc, &none, &[0])?;
-    let info = UaString::new(alloc, "hi")?;
+    let (source, server) = (Some(DateTime(2)), Some(DateTime(4)));
+    DataValue::new(alloc, Some(value), status, source, Some(3), server, Some(5))
+}
+
+fn diagnostics_of_each_part(alloc: Global, info: UaString) -> Result<DiagnosticInfo, VariantFault> {
+    let inner = around(alloc, None)?;
+    let status = Some(StatusCode(0x800b_0000));
     let (name, namespace, locale, text) = (Some(1), Some(2), Some(3), Some(4));
-    let more = DiagnosticInfo::new(
+    DiagnosticInfo::new(
         alloc,
         name,
         namespace,
@@ -67,79 +63,113 @@ fn data_values_and_diagnostics_keep_what_they_are_given(rt: HostRuntime) -> Resu
         text,
         info,
         status,
-        Some(none),
-    )?;
-    writes(&rt, alloc, &more, &DIAGNOSTICS)
+        Some(inner),
+    )
 }
 
-/// Why no array of the kind is made of the Variant `deep` and the null one.
-fn array_fault(
+#[test]
+fn parts_are_held(rt: HostRuntime) -> Result<(), Fail> {
+    let alloc = rt.alloc();
+    let none = DataValue::new(alloc, None, None, None, None, None, None);
+    made_as(&rt, alloc, none, &[0])?;
+    made_as(&rt, alloc, data_of_each_part(alloc), &DATA)?;
+    made_as(&rt, alloc, around(alloc, None), &[0])?;
+    let info = UaString::new(alloc, "hi")?;
+    made_as(
+        &rt,
+        alloc,
+        diagnostics_of_each_part(alloc, info),
+        &DIAGNOSTICS,
+    )
+}
+
+fn lengths(
+    rt: &impl Abort,
+    alloc: Global,
+    dimensions: Option<&[i32]>,
+) -> Result<Option<Vec<i32>>, NoMemory>
+    ensures { IfOk result (λ o. IfSome o (λ v. length v.items ≤ longest)) }
+{
+    let Some(dimensions) = dimensions else {
+        return Ok(None);
+    };
+    assert!(rt; dimensions.len() <= 100);
+    Ok(Some(dimensions.to_vec(alloc)?))
+}
+
+/// An array of a Variant that is 100 deep.
+fn array_with(
     rt: &impl Abort,
     alloc: Global,
     kind: Kind,
-    deep: &Variant,
     dimensions: Option<&[i32]>,
-) -> Result<Option<VariantFault>, Fail> {
-    let deep = element_of(alloc, deep.copy()?)?;
-    let elements = list_of_two(rt, alloc, deep, element_of(alloc, Variant::null())?)?;
-    let dimensions = match dimensions {
-        None => None,
-        Some(dimensions) => {
-            assert!(rt; dimensions.len() <= 100);
-            Some(dimensions.to_vec(alloc)?)
-        }
-    };
-    Ok(Variant::array(kind, Some(elements), dimensions).err())
+) -> Result<Variant, VariantFault> {
+    let dimensions = lengths(rt, alloc, dimensions)?;
+    let deep = element_of(alloc, array_of_100(rt, alloc)?)?;
+    array_of_one(rt, alloc, kind, deep, dimensions)
 }
+
+fn scalar_of_variant(alloc: Global, value: Variant) -> Result<Variant, VariantFault> {
+    Variant::scalar(element_of(alloc, value)?)
+}
+
+fn scalar_of_array(rt: &impl Abort, alloc: Global) -> Result<Variant, VariantFault> {
+    scalar_of_variant(alloc, array_of_100(rt, alloc)?)
+}
+
+/// Why no array of the kind, with the dimensions, is made of one Variant that is 100 deep.
+const REASONS: [(Kind, Option<&[i32]>, VariantFault); 8] = [
+    (Kind::Int32, Some(&[3]), VariantFault::MixedKinds),
+    (Kind::DataValue, None, VariantFault::MixedKinds),
+    (Kind::Variant, Some(&[3]), VariantFault::BadDimensions),
+    (Kind::Variant, Some(&[]), VariantFault::BadDimensions),
+    (Kind::Variant, Some(&[-1, -1]), VariantFault::BadDimensions),
+    (Kind::Variant, Some(&[1, 0]), VariantFault::BadDimensions),
+    (Kind::Variant, Some(&[1, 1]), VariantFault::TooDeep),
+    (Kind::Variant, None, VariantFault::TooDeep),
+];
 
 #[test]
 fn the_first_reason_is_given(rt: HostRuntime) -> Result<(), Fail> {
     let alloc = rt.alloc();
-    let inside = element_of(alloc, variant_of_99(alloc)?)?;
-    let deep = array_of_one(&rt, alloc, Kind::Variant, inside)?;
-    let rows: [(Kind, Option<&[i32]>, VariantFault); 8] = [
-        (Kind::Int32, Some(&[3]), VariantFault::MixedKinds),
-        (Kind::DataValue, None, VariantFault::MixedKinds),
-        (Kind::Variant, Some(&[3]), VariantFault::BadDimensions),
-        (Kind::Variant, Some(&[]), VariantFault::BadDimensions),
-        (Kind::Variant, Some(&[-1, -2]), VariantFault::BadDimensions),
-        (Kind::Variant, Some(&[2, 0]), VariantFault::BadDimensions),
-        (Kind::Variant, Some(&[2, 1]), VariantFault::TooDeep),
-        (Kind::Variant, None, VariantFault::TooDeep),
-    ];
-    for (kind, dimensions, fault) in rows {
-        let found = array_fault(&rt, alloc, kind, &deep, dimensions)?;
-        assert_eq!(rt; found, Some(fault), "{kind:?} {dimensions:?}");
+    for (kind, dimensions, reason) in REASONS {
+        not_made(&rt, array_with(&rt, alloc, kind, dimensions), reason);
     }
+    not_made(
+        &rt,
+        scalar_of_array(&rt, alloc),
+        VariantFault::SingleVariant,
+    );
+    let single = scalar_of_variant(alloc, Variant::null());
+    not_made(&rt, single, VariantFault::SingleVariant);
     let null = Variant::array(Kind::Byte, None, Some([1].to_vec(alloc)?));
-    assert_eq!(rt; null.err(), Some(VariantFault::BadDimensions));
-    let one = Variant::scalar(element_of(alloc, deep)?);
-    assert_eq!(rt; one.err(), Some(VariantFault::SingleVariant));
-    let one = Variant::scalar(element_of(alloc, Variant::null())?);
-    assert_eq!(rt; one.err(), Some(VariantFault::SingleVariant));
+    not_made(&rt, null, VariantFault::BadDimensions);
     Ok(())
 }
 
+const FAULTS: [(VariantFault, u8, &str); 5] = [
+    (VariantFault::MixedKinds, 1, "elements of another kind"),
+    (
+        VariantFault::SingleVariant,
+        2,
+        "a single value that is a Variant",
+    ),
+    (
+        VariantFault::BadDimensions,
+        3,
+        "dimensions that do not fit the elements",
+    ),
+    (VariantFault::TooDeep, 4, "nested more than 100 deep"),
+    (VariantFault::NoMemory, 5, "out of memory"),
+];
+
 #[test]
-fn faults_have_texts_and_numbers(rt: HostRuntime) -> Result<(), Fail> {
+fn faults_and_kinds_have_numbers(rt: HostRuntime) -> Result<(), Fail> {
     let alloc = rt.alloc();
-    let rows = [
-        (VariantFault::MixedKinds, 1, "elements of another kind"),
-        (
-            VariantFault::SingleVariant,
-            2,
-            "a single value that is a Variant",
-        ),
-        (
-            VariantFault::BadDimensions,
-            3,
-            "dimensions that do not fit the elements",
-        ),
-        (VariantFault::TooDeep, 4, "nested more than 100 deep"),
-        (VariantFault::NoMemory, 5, "out of memory"),
-    ];
-    for (fault, number, text) in rows {
-        assert_eq!(rt; fault as u8, number);
+    assert!(rt; Kind::named(26) == Some(Kind::ByteString) && Kind::ByteString.number() == 15);
+    assert!(rt; Kind::named(0).is_none() && Kind::named(32).is_none());
+    for (fault, number, text) in FAULTS {
+        assert!(rt; fault as u8 == number);
         let shown = format!(in alloc; "{fault}")?;
         assert_eq!(rt; shown.as_str(), text);
     }

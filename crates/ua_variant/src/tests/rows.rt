@@ -1,7 +1,7 @@
 //! Bytes and what they spell.
 
 use super::{reads, refuses};
-use crate::{DataValue, DiagnosticInfo, Element, ExtensionObject, Kind, Variant};
+use crate::{DataValue, DiagnosticInfo, ExtensionObject, Kind, Variant};
 use std::alloc::Global;
 use std::process::Abort;
 use std::test::Fail;
@@ -65,21 +65,22 @@ const SOME_DIAGNOSTICS: [(&[u8], &[u8]); 5] = [
     (&[0x20, 0, 0, 0, 0], &[0x20, 0, 0, 0, 0]),
 ];
 
+fn has_each_part(rt: &impl Abort, value: &DiagnosticInfo) {
+    let parts = value.parts();
+    assert!(rt; parts.symbolic_id == Some(1) && parts.namespace_uri == Some(2));
+    assert!(rt; parts.locale == Some(3) && parts.localized_text == Some(4));
+    assert!(rt; parts.additional_info.get() == Some("hi"));
+    assert!(rt; parts.inner_status == Some(StatusCode(0x800b_0000)));
+    assert!(rt; value.depth() == 2 && value.inner().is_some());
+}
+
 #[test]
 fn diagnostics_keep_what_is_flagged(rt: HostRuntime) -> Result<(), Fail> {
     let alloc = rt.alloc();
     refused_rows::<DiagnosticInfo>(&rt, alloc, &[&[0x80], &[0x40, 0x80]]);
     read_rows::<DiagnosticInfo>(&rt, alloc, &SOME_DIAGNOSTICS)?;
     let value = reads::<DiagnosticInfo>(&rt, alloc, &DIAGNOSTICS, 28, &DIAGNOSTICS)?;
-    let parts = value.parts();
-    assert_eq!(rt; parts.symbolic_id, Some(1));
-    assert_eq!(rt; parts.namespace_uri, Some(2));
-    assert_eq!(rt; parts.locale, Some(3));
-    assert_eq!(rt; parts.localized_text, Some(4));
-    assert_eq!(rt; parts.additional_info.get(), Some("hi"));
-    assert_eq!(rt; parts.inner_status, Some(StatusCode(0x800b_0000)));
-    assert_eq!(rt; value.depth(), 2);
-    assert!(rt; value.inner().is_some());
+    has_each_part(&rt, &value);
     Ok(())
 }
 
@@ -114,14 +115,21 @@ const SINGLES: [(Kind, &[u8]); 24] = [
     (Kind::DiagnosticInfo, &[0x19, 0x40, 0]),
 ];
 
+fn is_one(rt: &impl Abort, value: &Variant, kind: Kind) {
+    assert!(rt; !value.is_array() && !value.is_null());
+    assert_eq!(rt; value.kind(), Some(kind));
+    assert!(rt; value.value().is_some_and(|one| one.kind() == kind));
+}
+
 #[test]
 fn variants_have_a_value_of_each_kind(rt: HostRuntime) -> Result<(), Fail> {
     let alloc = rt.alloc();
     for (kind, bytes) in SINGLES {
-        let value = reads::<Variant>(&rt, alloc, bytes, bytes.len(), bytes)?;
-        assert_eq!(rt; value.kind(), Some(kind));
-        assert!(rt; !value.is_array() && !value.is_null());
-        assert!(rt; value.value().is_some_and(|one| one.kind() == kind));
+        is_one(
+            &rt,
+            &reads::<Variant>(&rt, alloc, bytes, bytes.len(), bytes)?,
+            kind,
+        );
     }
     Ok(())
 }
@@ -219,15 +227,19 @@ const NO_ARRAYS: [&[u8]; 9] = [
     &[0x83, 0xfe, 0xff, 0xff, 0xff, 1, 1, 1],
 ];
 
+fn is_array(rt: &impl Abort, value: &Variant, count: Option<usize>, lengths: Option<&[i32]>) {
+    assert!(rt; value.is_array());
+    assert_eq!(rt; value.elements().map(|elements| elements.len()), count);
+    assert_eq!(rt; value.dimensions(), lengths);
+}
+
 #[test]
 fn arrays_have_dimensions_that_fit(rt: HostRuntime) -> Result<(), Fail> {
     let alloc = rt.alloc();
     refused_rows::<Variant>(&rt, alloc, &NO_ARRAYS);
-    for (bytes, count, dimensions) in ARRAYS {
+    for (bytes, count, lengths) in ARRAYS {
         let value = reads::<Variant>(&rt, alloc, bytes, bytes.len(), bytes)?;
-        assert!(rt; value.is_array());
-        assert_eq!(rt; value.elements().map(|elements| elements.len()), count);
-        assert_eq!(rt; value.dimensions(), dimensions);
+        is_array(&rt, &value, count, lengths);
     }
     Ok(())
 }
@@ -251,27 +263,27 @@ const SOME_DATA: [(&[u8], &[u8]); 6] = [
     (&[0x20, 0x0f, 0x27], &[0x20, 0x0f, 0x27]),
 ];
 
+fn has_each_part_of_data(rt: &impl Abort, data: &DataValue) {
+    assert!(rt; data.depth() == 2);
+    assert!(rt;
+        data.value()
+            .is_some_and(|value| value.kind() == Some(Kind::Int32))
+    );
+    assert!(rt; data.status() == Some(StatusCode(0x800b_0000)));
+    assert!(rt; data.source_timestamp() == Some(DateTime(2)));
+    assert!(rt; data.source_picoseconds() == Some(3));
+    assert!(rt; data.server_timestamp() == Some(DateTime(4)));
+    assert!(rt; data.server_picoseconds() == Some(5));
+}
+
 #[test]
 fn data_values_keep_what_is_flagged(rt: HostRuntime) -> Result<(), Fail> {
     let alloc = rt.alloc();
     refused_rows::<DataValue>(&rt, alloc, &[&[0x40], &[0x80], &[0x01, 0x18, 0]]);
     read_rows::<DataValue>(&rt, alloc, &SOME_DATA)?;
     let nested: &[u8] = &[0x01, 0x97, 1, 0, 0, 0, 0x01, 0];
-    assert_eq!(rt;
-        reads::<DataValue>(&rt, alloc, nested, 8, nested)?.depth(),
-        4
-    );
-    let data = reads::<DataValue>(&rt, alloc, &DATA, 30, &DATA)?;
-    assert!(rt;
-        matches!(
-            data.value().and_then(|v| v.value()),
-            Some(Element::Int32(1))
-        )
-    );
-    assert_eq!(rt; data.status(), Some(StatusCode(0x800b_0000)));
-    assert_eq!(rt; data.source_timestamp(), Some(DateTime(2)));
-    assert_eq!(rt; data.source_picoseconds(), Some(3));
-    assert_eq!(rt; data.server_timestamp(), Some(DateTime(4)));
-    assert_eq!(rt; data.server_picoseconds(), Some(5));
+    let depth = reads::<DataValue>(&rt, alloc, nested, 8, nested)?.depth();
+    assert!(rt; depth == 4);
+    has_each_part_of_data(&rt, &reads::<DataValue>(&rt, alloc, &DATA, 30, &DATA)?);
     Ok(())
 }
