@@ -36,12 +36,20 @@ fn variants_hold_what_they_are_given(rt: HostRuntime) -> Result<(), Fail> {
     let alloc = rt.alloc();
     holds_nothing(&rt, &Variant::null());
     is_flat(&rt, &Element::Int32(1), 4);
-    let one = Variant::scalar(Element::Int32(1));
     made_as(&rt, alloc, Ok(Variant::null()), &[0])?;
-    made_as(&rt, alloc, one, &[0x06, 1, 0, 0, 0])?;
+    made_as(
+        &rt,
+        alloc,
+        Variant::scalar(Element::Int32(1)),
+        &[0x06, 1, 0, 0, 0],
+    )?;
     made_as(&rt, alloc, array_of_two(&rt, alloc), &ARRAY)?;
-    let null = Variant::array(Kind::Byte, None, None);
-    made_as(&rt, alloc, null, &[0x83, 0xff, 0xff, 0xff, 0xff])
+    made_as(
+        &rt,
+        alloc,
+        Variant::array(Kind::Byte, None, None),
+        &[0x83, 0xff, 0xff, 0xff, 0xff],
+    )
 }
 
 fn data_of_each_part(alloc: Global) -> Result<DataValue, VariantFault> {

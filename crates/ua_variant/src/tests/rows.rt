@@ -121,17 +121,17 @@ fn is_one(rt: &impl Abort, value: &Variant, kind: Kind) {
     assert!(rt; value.value().is_some_and(|one| one.kind() == kind));
 }
 
-#[test]
-fn variants_have_a_value_of_each_kind(rt: HostRuntime) -> Result<(), Fail> {
-    let alloc = rt.alloc();
-    for (kind, bytes) in SINGLES {
-        is_one(
-            &rt,
-            &reads::<Variant>(&rt, alloc, bytes, bytes.len(), bytes)?,
-            kind,
-        );
+fn read_singles(rt: &impl Abort, alloc: Global, rows: &[(Kind, &[u8])]) -> Result<(), Fail> {
+    for (kind, bytes) in rows {
+        let value = reads::<Variant>(rt, alloc, bytes, bytes.len(), bytes)?;
+        is_one(rt, &value, *kind);
     }
     Ok(())
+}
+
+#[test]
+fn variants_have_a_value_of_each_kind(rt: HostRuntime) -> Result<(), Fail> {
+    read_singles(&rt, rt.alloc(), &SINGLES)
 }
 
 /// What else is read, and what is written for it: byte strings under another type, and any true.
