@@ -1,5 +1,5 @@
 -- What a server's channel knows of the frames that it admitted.
-use Rattle.std.specs.Prelude.{ℕ, ◌+◌, max, List, [], ◌∷◌, Option, Some, None}
+use Rattle.std.specs.Prelude.{ℕ, max, List, [], ◌∷◌, Option, Some, None}
 use Rattle.ua_channel.specs.declared.token.Token.{Token}
 use Rattle.ua_channel.specs.Token.{next_token, two_newest}
 

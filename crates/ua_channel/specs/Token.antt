@@ -1,5 +1,5 @@
 -- Security tokens of a channel. OPC 10000-4, 5.6.2 (OpenSecureChannel).
-use Rattle.std.specs.Prelude.{ℕ, zero, suc, ◌+◌, ◌-◌, ◌*◌, ◌/◌, min, max, Bool, true, false, ◌&&◌, ◌==◌, nat_lt, List, [], ◌∷◌, take, Option, Some, None, is_some, if◌then◌else◌}
+use Rattle.std.specs.Prelude.{ℕ, ◌+◌, ◌-◌, ◌*◌, ◌/◌, min, max, Bool, false, ◌&&◌, ◌==◌, nat_lt, List, [], ◌∷◌, take, Option, Some, None, is_some, if◌then◌else◌}
 use Rattle.std.specs.List.{find}
 use Rattle.ua_channel.specs.declared.token.Token.{Token}
 
