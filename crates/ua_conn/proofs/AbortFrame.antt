@@ -1,26 +1,25 @@
 -- An A frame can follow any part: the part's own channel, token and id, the next number, and an abort body.
-use Rattle.std.proofs.Common.{◌≡◌, ℕ, zero, suc, ◌+◌, ◌/◌, ◌%◌, ◌<◌, ◌≤◌, ◌^◌, Bool, true, false, cond, not, ◌&&◌, ◌||◌, ◌==◌, nat_lt, List, [], ◌∷◌, ◌++◌, take, drop, length, get_or, Option, Some, None, is_some, refl, sym, ap, subst, ◌∙◌, arith, append_assoc, inl, inr}
-use Rattle.std.proofs.lemmas.List.{length-append}
-use Rattle.std.proofs.lemmas.Bool.{lt-ltb, ltb-true, ltb-false, cases_lt}
+use Rattle.std.proofs.Common.{◌≡◌, ℕ, zero, suc, ◌+◌, ◌/◌, ◌%◌, ◌<◌, ◌≤◌, ◌^◌, Bool, true, false, cond, ◌&&◌, ◌||◌, ◌==◌, nat_lt, List, [], ◌∷◌, ◌++◌, length, Option, Some, None, is_some, refl, sym, ap, subst, ◌∙◌, arith}
+use Rattle.std.proofs.lemmas.Bool.{lt-ltb, ltb-true, ltb-false}
 use Rattle.std.specs.Int.{w32, to_le_bytes}
-use Rattle.ua_value.specs.Format.{IsBytes, IsLawful}
+use Rattle.ua_value.specs.Format.{IsBytes}
 use Rattle.ua_value.specs.Lists.{IsBytes-drop}
 use Rattle.ua_value.specs.Number.{unsigned}
 use Rattle.ua_value.specs.Text.{bytes_of}
-use Rattle.ua_frame.specs.Streams.{IsFrame, size_of}
-use Rattle.ua_frame.specs.Layout.{Frame, kind_of, flag_of, fields_of, Parts, frame_bytes, IsFrameOf}
+use Rattle.ua_frame.specs.Streams.{size_of}
+use Rattle.ua_frame.specs.Layout.{Frame, kind_of, fields_of, Parts, frame_bytes, IsFrameOf}
 use Rattle.ua_frame.specs.LayoutLaws.{frame_bytes_is}
 use Rattle.ua_frame.specs.declared.kind.Kind.TheVariants as kinds
 use Rattle.ua_chunk.specs.Numbers.{follows}
 use Rattle.ua_chunk.specs.Layout.{Chunk, chunk_header, abort_body, chunk_of, abort_of, chunk_fields, abort_bytes}
 use Rattle.ua_chunk.specs.Layout as layout
-use Rattle.ua_chunk.specs.LayoutLaws.{chunk_takes, chunk_again, abort_again, lawful_chunk_header, lawful_abort_body}
+use Rattle.ua_chunk.specs.LayoutLaws.{chunk_takes, chunk_again, lawful_chunk_header}
 use Rattle.ua_channel.specs.Token.{is_usable}
 use Rattle.ua_channel.specs.Admission.{follows_last}
 use Rattle.ua_conn.specs.Site.{Site}
 use Rattle.ua_conn.specs.Past.{Past, Known, known, has_number, is_open, carried, or_empty, number_of, sequence_of, open_in}
 use Rattle.ua_conn.specs.Faults.{greatest_frame}
-use Rattle.ua_conn.specs.Legal.{IsWhole, HasSize, IsChunk, CanDrop}
+use Rattle.ua_conn.specs.Legal.{IsChunk, CanDrop}
 use Rattle.ua_conn.specs.Machine.{known_after}
 use Rattle.ua_conn.proofs.Step.{known_step}
 use Rattle.ua_conn.proofs.Ready.{msg_tokens, msg_limits}

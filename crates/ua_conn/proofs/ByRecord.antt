@@ -1,21 +1,20 @@
 -- What a piece brings to a server that goes on depends on what is held alone.
-use Rattle.std.proofs.Common.{◌≡◌, ℕ, zero, suc, ◌+◌, max, Bool, true, false, cond, List, [], ◌∷◌, ◌++◌, map, Option, Some, None, refl, sym, ap, subst, ◌∙◌, append_assoc}
+use Rattle.std.proofs.Common.{◌≡◌, max, List, [], ◌∷◌, ◌++◌, map, None, refl, sym, ap, subst, ◌∙◌}
 use Rattle.std.proofs.lemmas.List.{append-nil, map-append}
-use Rattle.ua_frame.specs.Streams.{Piece, TimedByte, plain, timed, latest, at, cuts_of, rest_of}
+use Rattle.ua_frame.specs.Streams.{Piece, plain, timed, latest, at, cuts_of, rest_of}
 use Rattle.ua_frame.specs.Layout.{Frame, frame_by, frames_of}
 use Rattle.ua_frame.specs.StreamLaws.{framed, framed_more, timed_more, latest_more}
 use Rattle.ua_chunk.specs.Numbers.{number_after}
-use Rattle.ua_service.specs.declared.request.Request.{Request}
 use Rattle.ua_conn.specs.Site.{Site}
-use Rattle.ua_conn.specs.Past.{Past, Known, known}
-use Rattle.ua_conn.specs.Replies.{Reply, Reading, reading, reading_of, replies, requests, failing, spelled_all, numbered_after, end_of, reply_bytes, handed}
-use Rattle.ua_conn.specs.Held.{newest_first, Held, held, stop, GoesOn, Gain, Gains, ByRecord}
-use Rattle.ua_conn.specs.Machine.{Run, run, spelled_next, next_after, gain}
+use Rattle.ua_conn.specs.Past.{Past, known}
+use Rattle.ua_conn.specs.Replies.{reading, reading_of, replies, requests, failing, spelled_all, numbered_after, end_of, reply_bytes}
+use Rattle.ua_conn.specs.Held.{newest_first, held, stop, GoesOn, Gains, ByRecord}
+use Rattle.ua_conn.specs.Machine.{run, next_after, gain}
 use Rattle.ua_conn.specs.declared.outcome.End.{End}
 use Rattle.ua_conn.specs.declared.outcome.End.TheVariants.{Closed, InputEnded, Truncated, Refused, LinkFailed, TurnsSpent, NoMemory}
 use Rattle.ua_conn.proofs.Retimed.{rest_retimed}
 use Rattle.ua_conn.proofs.Numbers.{all_numbers, numbered_append, spelled_append, spelled_is_next}
-use Rattle.ua_conn.proofs.Runs.{IsRun, run_is, reading_more}
+use Rattle.ua_conn.proofs.Runs.{run_is, reading_more}
 
 newest_append : (fs gs : List Frame) (past : Past) → newest_first (fs ++ gs) past ≡ newest_first gs (newest_first fs past)
 newest_append [] gs past = refl

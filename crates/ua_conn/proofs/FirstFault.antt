@@ -1,12 +1,11 @@
 -- A reading stops at the least place.
-use Rattle.std.proofs.Common.{◌≡◌, ℕ, Bool, true, false, cond, List, [], ◌∷◌, ◌++◌, Option, Some, None, refl, sym, ap, ◌∙◌}
+use Rattle.std.proofs.Common.{◌≡◌, ℕ, Bool, true, false, cond, List, [], ◌∷◌, Option, Some, None, refl, ap}
 use Rattle.ua_frame.specs.Layout.{Frame, kind_of}
 use Rattle.ua_conn.specs.Site.{Site}
 use Rattle.ua_conn.specs.Past.{Past, known, is_close}
-use Rattle.ua_conn.specs.Faults.{fault_at, fault_in_rest}
-use Rattle.ua_conn.specs.Replies.{ended, Reading, reading}
-use Rattle.ua_conn.specs.Held.{newest_first}
-use Rattle.ua_conn.specs.FirstFault.{GoOn, Stops, at_fault, at_close, at_rest, First}
+use Rattle.ua_conn.specs.Faults.{fault_at}
+use Rattle.ua_conn.specs.Replies.{Reading, reading}
+use Rattle.ua_conn.specs.FirstFault.{at_fault, at_close, at_rest, First}
 use Rattle.ua_conn.specs.declared.outcome.End.TheVariants.{Closed, Refused}
 
 cases : (o : Option ℕ) (b : Bool) (site : Site) (past : Past) (f : Frame) (fs : List Frame) (rest : List ℕ) (R : Reading) → fault_at site (known site past) f ≡ o → is_close (kind_of f.bytes) ≡ b → First site (f ∷ past) fs rest R →

@@ -1,21 +1,20 @@
 -- A list of frames without a fault is a beginning of a legal one.
-use Rattle.std.proofs.Common.{◌≡◌, ℕ, zero, suc, ◌+◌, ◌<◌, ◌≤◌, Bool, true, false, cond, not, ◌&&◌, ◌||◌, ◌==◌, List, [], ◌∷◌, ◌++◌, length, Option, Some, None, is_some, is_none, refl, sym, ap, subst, ◌∙◌, arith, append_assoc, ◌⊎◌, inl, inr}
+use Rattle.std.proofs.Common.{◌≡◌, ℕ, ◌+◌, ◌≤◌, Bool, true, false, cond, not, ◌||◌, ◌==◌, List, [], ◌∷◌, ◌++◌, length, Option, Some, None, is_some, refl, sym, ap, subst, ◌∙◌, arith, append_assoc, ◌⊎◌, inl, inr}
 use Rattle.std.proofs.lemmas.List.{append-nil, length-append}
 use Rattle.std.proofs.lemmas.List.Concat.{flat_map-append}
 use Rattle.std.proofs.lemmas.Bool.{eqb-true}
-use Rattle.ua_frame.specs.Layout.{Frame, kind_of, flag_of, fields_of}
+use Rattle.ua_frame.specs.Layout.{Frame, kind_of, flag_of}
 use Rattle.ua_frame.specs.declared.kind.Kind.{Kind}
 use Rattle.ua_frame.specs.declared.kind.Kind.TheVariants as kinds
 use Rattle.ua_chunk.specs.Half.{Half, body_of, parts_of, may_have_id}
 use Rattle.std.specs.Prelude.{pos}
 use Rattle.ua_conn.specs.Site.{Site}
 use Rattle.ua_conn.specs.Past.{Past, Known, known, has_number, is_close, carried}
-use Rattle.ua_conn.specs.Faults.{is_allowed}
 use Rattle.ua_conn.specs.Held.{newest_first}
-use Rattle.ua_conn.specs.Legal.{joined_body, IsWhole, IsChunk, IsOpening, AreParts, FitTheLimits, Turn, Renewal, Message, Dropped, turn_frames, IsTurn, AreTurns, all_frames, Tail, NoTail, Close, tail_frames, IsTail, CanDrop}
+use Rattle.ua_conn.specs.Legal.{joined_body, IsChunk, IsOpening, AreParts, FitTheLimits, Turn, Renewal, Message, Dropped, turn_frames, IsTurn, AreTurns, all_frames, Tail, NoTail, Close, tail_frames, IsTail, CanDrop}
 use Rattle.ua_conn.proofs.RowsTell.{Fine, AreFine, tells, yes, Admits, Part, part_tells, close_tells, OpenAt, open_tells}
 use Rattle.ua_conn.proofs.AbortFrame.{can_drop}
-use Rattle.ua_conn.proofs.Ready.{half_of, Ready, newest_last, half_bodies, half_counts, half_ids, allowed_ready, part_ready, last_ready, opn_ready}
+use Rattle.ua_conn.proofs.Ready.{half_of, Ready, newest_last, half_bodies, half_counts, allowed_ready, part_ready, last_ready, opn_ready}
 use Rattle.ua_service.specs.ChannelMessages.{close_of}
 use Rattle.ua_service.specs.Requests.{request_of}
 

@@ -1,14 +1,12 @@
 -- No row of the table holds in a list exactly where it is a beginning of a legal one.
-use Rattle.std.proofs.Common.{◌≡◌, ℕ, zero, suc, ◌+◌, ◌<◌, ◌≤◌, Bool, true, false, cond, not, ◌&&◌, ◌||◌, ◌==◌, ◌↔◌, List, [], ◌∷◌, ◌++◌, length, take, Option, Some, None, is_some, is_none, refl, sym, ap, subst, ◌∙◌, arith, append_assoc, ◌⊎◌, inl, inr}
+use Rattle.std.proofs.Common.{◌≡◌, ℕ, ◌+◌, ◌≤◌, true, false, cond, ◌||◌, ◌==◌, List, [], ◌∷◌, ◌++◌, length, Option, Some, None, is_some, is_none, refl, sym, ap, subst, ◌∙◌, arith, append_assoc}
 use Rattle.std.proofs.lemmas.List.{append-nil, length-append}
 use Rattle.std.proofs.lemmas.List.Concat.{flat_map-append}
 use Rattle.std.proofs.lemmas.Bool.{eqb-true}
-use Rattle.ua_frame.specs.Layout.{Frame, kind_of, flag_of, fields_of}
+use Rattle.ua_frame.specs.Layout.{Frame, kind_of, flag_of}
 use Rattle.ua_frame.specs.declared.kind.Kind.{Kind}
 use Rattle.ua_frame.specs.declared.kind.Kind.TheVariants as kinds
 use Rattle.std.specs.Prelude.{pos, option_map}
-use Rattle.std.specs.List.{AllByRecursion}
-use Rattle.ua_frame.specs.Hello.{negotiated}
 use Rattle.ua_frame.specs.declared.hello.Hello.{Hello}
 use Rattle.ua_channel.specs.Token.{two_newest}
 use Rattle.ua_chunk.specs.Half.{Half, ends_message, body_of, parts_of, may_have_id}
@@ -16,10 +14,10 @@ use Rattle.ua_conn.specs.Site.{Site}
 use Rattle.ua_conn.specs.Past.{Past, Known, known, agreed, is_hello, is_open, is_message, is_close, has_number, carried, hello_in, limits_of, tokens_by, half_by, until}
 use Rattle.ua_conn.specs.Faults.{is_allowed, greatest_frame}
 use Rattle.ua_conn.specs.Held.{newest_first}
-use Rattle.ua_conn.specs.Legal.{joined_body, IsWhole, IsChunk, IsOpening, IsHello, AreParts, FitTheLimits, Turn, Renewal, Message, Dropped, turn_frames, IsTurn, AreTurns, IsMessage, IsDropped, all_frames, Tail, NoTail, Close, tail_frames, IsClose, IsTail, IsLegal, IsFaultless, IsBeginning, HasRoom, Opens, BeginsLegal}
-use Rattle.ua_conn.proofs.RowsTell.{AllFalse, Fine, AreFine, fine_all, faultless_all, tells, fine_by, yes, Admits, Part, part_rows, close_rows_no, OpenAt, open_tells, open_rows_no, HelloAt, hello_tells, hello_rows_no}
+use Rattle.ua_conn.specs.Legal.{joined_body, IsChunk, IsOpening, IsHello, AreParts, FitTheLimits, Turn, Renewal, Message, Dropped, turn_frames, IsTurn, AreTurns, IsMessage, IsDropped, all_frames, Tail, NoTail, Close, tail_frames, IsClose, IsTail, IsLegal, IsBeginning, HasRoom, Opens, BeginsLegal}
+use Rattle.ua_conn.proofs.RowsTell.{Fine, AreFine, fine_all, faultless_all, tells, fine_by, yes, Admits, Part, part_rows, close_rows_no, OpenAt, open_tells, open_rows_no, HelloAt, hello_tells, hello_rows_no}
 use Rattle.ua_conn.proofs.Ready.{half_of, Ready, newest_last, half_bodies, half_counts, half_ids, allowed_ready, part_ready, last_ready, opn_ready}
-use Rattle.ua_conn.proofs.Grammar.{Grown, build, start_at}
+use Rattle.ua_conn.proofs.Grammar.{build, start_at}
 use Rattle.ua_service.specs.Requests.{request_of}
 
 hel_kind : (kind : Option Kind) → is_hello kind ≡ true → kind ≡ Some kinds.Hello

@@ -1,5 +1,5 @@
 -- The numbers of a reply, counted and taken one after another.
-use Rattle.std.proofs.Common.{◌≡◌, ℕ, zero, suc, ◌+◌, ◌%◌, Bool, true, false, cond, List, [], ◌∷◌, ◌++◌, refl, sym, ap, ◌∙◌, append_assoc, arith}
+use Rattle.std.proofs.Common.{◌≡◌, ℕ, ◌+◌, Bool, true, false, cond, List, [], ◌∷◌, ◌++◌, refl, sym, ap, ◌∙◌, append_assoc, arith}
 use Rattle.ua_chunk.specs.Numbers.{number_after}
 use Rattle.ua_chunk.specs.NumberLaws.{number_after_more}
 use Rattle.ua_conn.specs.Site.{Site}

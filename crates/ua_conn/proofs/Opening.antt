@@ -1,5 +1,5 @@
 -- A HEL and an open request that every server takes, whatever its limits.
-use Rattle.std.proofs.Common.{◌≡◌, ℕ, zero, suc, ◌+◌, ◌<◌, ◌≤◌, Bool, true, false, cond, ◌&&◌, ◌==◌, nat_lt, List, [], ◌∷◌, ◌++◌, length, Option, Some, None, refl, sym, ap, subst, ◌∙◌, arith, lit≤, lit<}
+use Rattle.std.proofs.Common.{◌≡◌, ℕ, zero, suc, ◌<◌, Bool, true, false, cond, ◌&&◌, nat_lt, List, [], ◌∷◌, Some, None, refl, sym, ap, subst, arith, lit≤, lit<}
 use Rattle.std.specs.Prelude.{pos, option_map}
 use Rattle.std.specs.Str.{is_utf8, chars}
 use Rattle.std.proofs.lemmas.Bool.{ltb-true}
@@ -11,7 +11,7 @@ use Rattle.ua_value.specs.Node.{node_id, two_byte}
 use Rattle.ua_value.specs.Date.{date_time}
 use Rattle.ua_variant.specs.Extension.{extension_object, extension_body}
 use Rattle.ua_frame.specs.Streams.{size_of}
-use Rattle.ua_frame.specs.Layout.{Frame, kind_of, flag_of, fields_of}
+use Rattle.ua_frame.specs.Layout.{Frame, kind_of, flag_of}
 use Rattle.ua_frame.specs.Hello.{hello_layout}
 use Rattle.ua_frame.specs.declared.kind.Kind.TheVariants as kinds
 use Rattle.ua_frame.specs.declared.hello.Hello.{Hello}
@@ -26,7 +26,6 @@ use Rattle.ua_channel.specs.Admission.{follows_last, is_text}
 use Rattle.ua_conn.specs.Site.{Site}
 use Rattle.ua_conn.specs.Answers.{no_object}
 use Rattle.ua_conn.specs.Past.{known, has_number, is_open, number_of, hello_in, open_in, tokens_by}
-use Rattle.ua_conn.specs.Faults.{greatest_frame}
 use Rattle.ua_conn.specs.Legal.{IsWhole, HasRoom, IsHello, IsOpening, Opens}
 use Rattle.ua_conn.proofs.Vectors.{hello, open_first, open_body}
 use Rattle.ua_conn.proofs.LegalLaw.{room_second}

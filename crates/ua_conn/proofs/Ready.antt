@@ -1,13 +1,12 @@
 -- What is known behind an opening, and behind the parts of a half received message.
-use Rattle.std.proofs.Common.{◌≡◌, ℕ, zero, suc, ◌+◌, ◌<◌, ◌≤◌, Bool, true, false, cond, not, ◌&&◌, ◌||◌, ◌==◌, List, [], ◌∷◌, ◌++◌, length, take, Option, Some, None, is_some, is_none, refl, sym, ap, subst, ◌∙◌, arith, append_assoc, ◌⊎◌, inl, inr}
+use Rattle.std.proofs.Common.{◌≡◌, ℕ, suc, ◌+◌, ◌≤◌, true, false, cond, ◌||◌, ◌==◌, List, [], ◌∷◌, ◌++◌, length, take, Option, Some, None, is_none, refl, sym, ap, subst, ◌∙◌, arith, inl, inr}
 use Rattle.std.proofs.lemmas.List.{append-nil, length-append}
 use Rattle.std.proofs.lemmas.List.Concat.{flat_map-append}
-use Rattle.std.proofs.lemmas.Bool.{eqb-true}
 use Rattle.std.proofs.lemmas.Bool.Decides.{eqb_tells}
-use Rattle.ua_frame.specs.Layout.{Frame, kind_of, flag_of, fields_of}
+use Rattle.ua_frame.specs.Layout.{Frame, kind_of, flag_of}
 use Rattle.ua_frame.specs.declared.kind.Kind.{Kind}
 use Rattle.ua_frame.specs.declared.kind.Kind.TheVariants as kinds
-use Rattle.ua_chunk.specs.Half.{Half, with_part, ends_message, body_of, parts_of, may_have_id}
+use Rattle.ua_chunk.specs.Half.{Half, with_part, body_of, parts_of, may_have_id}
 use Rattle.ua_conn.specs.Site.{Site}
 use Rattle.ua_conn.specs.Past.{Past, Known, known, is_hello, is_open, is_message, has_number, carried, limits_of}
 use Rattle.ua_conn.specs.Faults.{is_allowed, greatest_frame}

@@ -1,10 +1,10 @@
 -- The moments of what is left count no more, once a later byte completes the frame.
-use Rattle.std.proofs.Common.{◌≡◌, ℕ, zero, suc, ◌+◌, ◌-◌, ◌<◌, ◌≤◌, Bool, true, false, cond, ◌&&◌, List, [], ◌∷◌, ◌++◌, map, take, drop, length, refl, sym, ap, subst, ◌∙◌, append_assoc, nat_le, arith, ◌⊎◌, inl, inr}
-use Rattle.std.proofs.lemmas.List.{take-append-le, take-append-drop, length-take-le, length-drop, length-append, length-map, map-append, take-map, drop-map}
+use Rattle.std.proofs.Common.{◌≡◌, ℕ, zero, suc, ◌+◌, ◌-◌, ◌<◌, ◌≤◌, Bool, true, false, cond, ◌&&◌, List, [], ◌∷◌, ◌++◌, map, take, drop, length, refl, sym, ap, subst, ◌∙◌, nat_le, arith, ◌⊎◌, inl, inr}
+use Rattle.std.proofs.lemmas.List.{take-append-le, length-take-le, length-append, length-map, map-append, take-map, drop-map}
 use Rattle.std.proofs.lemmas.Bool.{leb-true, leb-false}
-use Rattle.ua_frame.specs.Streams.{TimedByte, at, plain, size_of, IsFrame, begins_frame, cuts_within, rest_within, cuts_of, rest_of}
-use Rattle.ua_frame.specs.Layout.{Frame, frame_by, last_moment, frames_of}
-use Rattle.ua_frame.specs.StreamLaws.{frame_size, front_is_frame, plain_take, length_plain}
+use Rattle.ua_frame.specs.Streams.{TimedByte, at, plain, size_of, IsFrame, begins_frame, cuts_within, rest_within, rest_of}
+use Rattle.ua_frame.specs.Layout.{frame_by, last_moment, frames_of}
+use Rattle.ua_frame.specs.StreamLaws.{front_is_frame, plain_take, length_plain}
 
 drop_past : {A : Type 0} (xs ys : List A) (z k : ℕ) → z ≡ length xs + k → drop z (xs ++ ys) ≡ drop k ys
 drop_past [] ys z k e = ap (λ n. drop n ys) (omega (arith, e))

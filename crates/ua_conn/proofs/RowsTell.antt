@@ -1,6 +1,6 @@
 -- Each row that does not hold, as a fact; and back.
-use Rattle.std.proofs.Common.{◌≡◌, ℕ, zero, suc, ◌+◌, ◌<◌, ◌≤◌, Bool, true, false, cond, not, ◌&&◌, ◌||◌, ◌==◌, nat_lt, nat_le, List, [], ◌∷◌, ◌++◌, length, Option, Some, None, is_some, is_none, refl, sym, ap, subst, ◌∙◌, arith, ◌⊎◌, inl, inr}
-use Rattle.std.proofs.lemmas.Bool.{ltb-true, ltb-false, le-ltb, eqb-true, leb-false, lt-leb}
+use Rattle.std.proofs.Common.{◌≡◌, ℕ, ◌+◌, ◌<◌, ◌≤◌, Bool, true, false, cond, not, ◌&&◌, ◌||◌, ◌==◌, nat_lt, List, [], ◌∷◌, ◌++◌, length, Option, Some, None, is_some, is_none, refl, sym, ap, subst, ◌∙◌, arith, inl, inr}
+use Rattle.std.proofs.lemmas.Bool.{ltb-false, le-ltb, eqb-true, leb-false, lt-leb}
 use Rattle.std.proofs.lemmas.Bool.Decides.{eqb_tells}
 use Rattle.std.specs.List.{AllByRecursion}
 use Rattle.ua_frame.specs.Layout.{Frame, kind_of, flag_of, fields_of}
@@ -11,11 +11,11 @@ use Rattle.ua_conn.specs.Site.{Site}
 use Rattle.std.specs.Prelude.{ℤ, pos, negsuc}
 use Rattle.ua_frame.specs.Streams.{size_of}
 use Rattle.ua_frame.specs.Rows.{Row, first_row, or_else}
-use Rattle.ua_frame.specs.HeaderRows.{header_fault, rows_of, flag_fits}
-use Rattle.ua_frame.specs.Hello.{hello_rows, is_long, is_small}
+use Rattle.ua_frame.specs.HeaderRows.{header_fault, rows_of}
+use Rattle.ua_frame.specs.Hello.{hello_rows, is_long}
 use Rattle.ua_frame.specs.declared.hello.Hello.{Hello}
 use Rattle.ua_chunk.specs.Layout.{OpenChunk, chunk_of, abort_of, policy_none}
-use Rattle.ua_chunk.specs.Half.{Half, body_of, parts_of, may_have_id}
+use Rattle.ua_chunk.specs.Half.{body_of, parts_of, may_have_id}
 use Rattle.ua_channel.specs.Token.{newest_id, is_usable}
 use Rattle.ua_channel.specs.Admission.{follows_last, is_text, is_int, admit_open_rows}
 use Rattle.ua_conn.specs.Past.{Past, Known, known, is_close, carried, hello_in, open_in}

@@ -1,16 +1,14 @@
 -- Reading frames one after another, on the whole past and on the record of what is known.
-use Rattle.std.proofs.Common.{◌≡◌, ℕ, Bool, true, false, cond, List, [], ◌∷◌, ◌++◌, Option, Some, None, refl, sym, ap, subst, ◌∙◌, append_assoc}
+use Rattle.std.proofs.Common.{◌≡◌, ℕ, Bool, true, false, cond, List, [], ◌∷◌, ◌++◌, Option, Some, None, refl, sym, subst, ◌∙◌, append_assoc}
 use Rattle.std.proofs.lemmas.List.{append-nil}
 use Rattle.ua_frame.specs.Layout.{Frame, kind_of}
-use Rattle.ua_service.specs.declared.request.Request.{Request}
 use Rattle.ua_conn.specs.Site.{Site}
 use Rattle.ua_conn.specs.Past.{Past, Known, known, is_close}
-use Rattle.ua_conn.specs.Faults.{fault_at, fault_in_rest}
-use Rattle.ua_conn.specs.Replies.{Reply, Failed, Reading, reading, ended, failing, replies, requests, reply_to, handed_at}
+use Rattle.ua_conn.specs.Faults.{fault_at}
+use Rattle.ua_conn.specs.Replies.{Failed, Reading, reading, failing, replies, requests, reply_to, handed_at}
 use Rattle.ua_conn.specs.Held.{newest_first, stop}
 use Rattle.ua_conn.specs.Machine.{Run, run, behind, known_after}
-use Rattle.ua_conn.specs.declared.outcome.End.{End}
-use Rattle.ua_conn.specs.declared.outcome.End.TheVariants.{Closed, InputEnded, Truncated, Refused, LinkFailed, TurnsSpent, NoMemory}
+use Rattle.ua_conn.specs.declared.outcome.End.TheVariants.{Closed, Refused}
 use Rattle.ua_conn.proofs.Step.{known_step}
 
 -- what the run brings is what the reading has past `past`

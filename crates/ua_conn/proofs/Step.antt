@@ -1,5 +1,5 @@
 -- One more frame moves what is known by one step.
-use Rattle.std.proofs.Common.{◌≡◌, ℕ, zero, suc, ◌+◌, Bool, true, false, cond, List, [], ◌∷◌, ◌++◌, map, take, length, max, Option, Some, None, refl, sym, ap, ◌∙◌, add-one}
+use Rattle.std.proofs.Common.{◌≡◌, ℕ, ◌+◌, Bool, true, false, cond, List, [], ◌∷◌, ◌++◌, map, take, length, Option, Some, None, refl, sym, ap, ◌∙◌, add-one}
 use Rattle.std.specs.List.{filter, find}
 use Rattle.std.specs.Prelude.{option_map}
 use Rattle.ua_frame.specs.Layout.{Frame, kind_of, flag_of}
@@ -7,7 +7,7 @@ use Rattle.ua_channel.specs.declared.token.Token.{Token}
 use Rattle.ua_channel.specs.Token.{newest_id}
 use Rattle.ua_channel.specs.Channel.{most}
 use Rattle.ua_conn.specs.Site.{Site}
-use Rattle.ua_conn.specs.Past.{Past, Known, Agreed, known, is_hello, is_open, is_message, has_token, has_number, carried, limits_in, limits_of, tokens_by, tokens_in, last_number, number_of, half_by, half_in, half_parts, joined, oldest, until, used_in, greatest}
+use Rattle.ua_conn.specs.Past.{Past, Known, Agreed, known, is_open, is_message, has_token, has_number, carried, tokens_by, number_of, half_by, joined, oldest, until, greatest}
 use Rattle.ua_chunk.specs.Half.{Half, with_part, ends_message}
 use Rattle.ua_conn.specs.Machine.{known_after, token_after, half_then}
 

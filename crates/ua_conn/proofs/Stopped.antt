@@ -1,7 +1,6 @@
 -- Once a stream has a fault or a CLO, what comes later changes nothing.
-use Rattle.std.proofs.Common.{◌≡◌, ℕ, zero, suc, ◌+◌, ◌<◌, ◌≤◌, max, Bool, true, false, cond, ◌&&◌, nat_le, nat_lt, List, [], ◌∷◌, ◌++◌, map, take, drop, length, Option, Some, None, refl, sym, ap, subst, ◌∙◌, arith, append_assoc, ◌⊎◌, inl, inr}
-use Rattle.std.proofs.lemmas.List.{append-nil, length-append, length-map, map-append, take-map, take-append-drop, length-take-le}
-use Rattle.std.proofs.lemmas.Bool.{leb-true, leb-false, le-leb, ltb-true, ltb-false, le-ltb}
+use Rattle.std.proofs.Common.{◌≡◌, ℕ, ◌<◌, ◌≤◌, max, Bool, true, false, cond, List, [], ◌∷◌, ◌++◌, map, take, length, Option, Some, None, refl, sym, ap, subst, ◌∙◌, arith, append_assoc, ◌⊎◌, inl, inr}
+use Rattle.std.proofs.lemmas.List.{map-append}
 use Rattle.ua_frame.specs.Streams.{Piece, TimedByte, at, plain, size_of, IsFrame, cuts_of, rest_of, timed, timed_since, latest_since}
 use Rattle.ua_frame.specs.StreamLaws.{framed_more, framed_stop, frame_size, front_is_frame, plain_take, length_plain}
 use Rattle.ua_frame.specs.Layout.{Frame, last_moment, frame_by, frames_of, kind_of, flag_of}
@@ -11,7 +10,7 @@ use Rattle.ua_frame.specs.HeaderLaws.{header_fault_take, header_fault_stays}
 use Rattle.ua_conn.specs.Site.{Site}
 use Rattle.ua_conn.specs.Past.{Past, Known, known, is_close}
 use Rattle.ua_conn.specs.Faults.{fault_at, fault_in_rest, greatest_frame, frame_rows}
-use Rattle.ua_conn.specs.Replies.{Reading, reading, reading_of, ended, replies, requests, failing, spelled_all, end_of, reply_bytes, handed}
+use Rattle.ua_conn.specs.Replies.{Reading, reading, reading_of, ended, replies, requests, failing, spelled_all}
 use Rattle.ua_conn.specs.Held.{stop}
 use Rattle.ua_conn.specs.Whole.{StaysStopped}
 use Rattle.ua_conn.specs.declared.outcome.End.{End}

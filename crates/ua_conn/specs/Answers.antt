@@ -1,13 +1,11 @@
 -- What a server says to a request. OPC 10000-4, 5.6.2, 7.33 and 7.34.
-use Rattle.std.specs.Prelude.{ℕ, pos, List, Option, Some, None}
-use Rattle.ua_value.specs.declared.node.NodeId.{NodeId}
+use Rattle.std.specs.Prelude.{ℕ, pos, List, None}
 use Rattle.ua_value.specs.Node.{two_byte}
 use Rattle.ua_variant.specs.declared.extension.ExtensionObject.{ExtensionObject}
 use Rattle.ua_variant.specs.declared.extension.ExtensionBody.TheVariants as extensions
 use Rattle.ua_variant.specs.Diagnostic.{Diagnostic, plain}
 use Rattle.ua_service.specs.declared.headers.RequestHeader.{RequestHeader}
 use Rattle.ua_service.specs.declared.headers.ResponseHeader.{ResponseHeader}
-use Rattle.ua_service.specs.declared.channel.OpenRequest.{OpenRequest}
 use Rattle.ua_service.specs.declared.channel.OpenResponse.{OpenResponse}
 use Rattle.ua_service.specs.declared.request.Request.{Request}
 use Rattle.ua_service.specs.declared.request.Request.TheVariants as requests

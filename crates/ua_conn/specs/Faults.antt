@@ -64,12 +64,13 @@ message_rows site k flag chunk =
     ++ (flag == 70 && is_none (request_of (body_of k.half ++ chunk.body)), 0x80070000)
     ∷ []
 
+-- message body: a close request's
 abbrev pub close_rows : Chunk → List Row
 close_rows chunk = (is_none (close_of chunk.body), 0x80070000) ∷ []
 
 -- ---- the table
 
--- the rows of the frame's type
+-- the rows of the frame's type; of a Hello: hello layout, url too long, buffer too small
 abbrev pub type_rows : Site → Known → Frame → ℕ → Option Kind → List Row
 type_rows site k f flag (Some kinds.Hello) = hello_rows (hello_in f)
 type_rows site k f flag (Some kinds.Open) = open_rows site k (open_in f)
@@ -81,7 +82,7 @@ type_rows site k f flag kind = []
 abbrev pub frame_rows : Site → Known → Frame → Option Kind → ℕ → List Row
 frame_rows site k f kind flag = (not (is_allowed k kind), 0x807E0000) ∷ type_rows site k f flag kind
 
--- the whole table, at a whole frame
+-- The whole table, at a whole frame: unknown type, wrong flag, size under a header, size over the limit, and then the rows above.
 unfoldable pub fault_at : Site → Known → Frame → Option ℕ
 fault_at site k f =
     or_else (header_fault (greatest_frame k.limits) f.bytes) (first_row (frame_rows site k f (kind_of f.bytes) (flag_of f.bytes)))

@@ -1,5 +1,5 @@
 -- The reading in plain words: the least place at which a row of the table holds, or a CLO stands.
-use Rattle.std.specs.Prelude.{◌≡◌, ℕ, true, false, List, [], ◌∷◌, ◌++◌, Option, Some, None}
+use Rattle.std.specs.Prelude.{◌≡◌, ℕ, true, false, List, [], ◌∷◌, ◌++◌, Some, None}
 use Rattle.ua_frame.specs.Layout.{Frame, kind_of}
 use Rattle.ua_conn.specs.Site.{Site}
 use Rattle.ua_conn.specs.Past.{Past, known, is_close}

@@ -1,5 +1,5 @@
 -- What a client may send, as a grammar over whole lists of frames. OPC 10000-6, 6.7.2 and 6.7.3 (chunks), 6.7.4 (OPN), 7.1.3 (opening).
-use Rattle.std.specs.Prelude.{◌≡◌, ℕ, ◌<◌, ◌≤◌, ◌^◌, ◌↔◌, ℤ, pos, Bool, true, false, List, [], ◌∷◌, ◌++◌, length, Option, Some, None, is_some}
+use Rattle.std.specs.Prelude.{◌≡◌, ℕ, ◌<◌, ◌≤◌, ◌↔◌, pos, true, false, List, [], ◌∷◌, ◌++◌, length, Some, None, is_some}
 use Rattle.std.specs.List.{flat_map, AllByRecursion}
 use Rattle.ua_value.specs.Format.{IsBytes}
 use Rattle.ua_frame.specs.Streams.{size_of, IsFrame}
@@ -8,7 +8,6 @@ use Rattle.ua_frame.specs.Hello.{is_long}
 use Rattle.ua_frame.specs.declared.kind.Kind.{Kind}
 use Rattle.ua_frame.specs.declared.kind.Kind.TheVariants as kinds
 use Rattle.ua_frame.specs.declared.hello.Hello.{Hello}
-use Rattle.ua_frame.specs.declared.limits.Limits.{Limits}
 use Rattle.ua_chunk.specs.Layout.{OpenChunk, chunk_of, abort_of, policy_none}
 use Rattle.ua_channel.specs.Token.{newest_id, is_usable}
 use Rattle.ua_channel.specs.Admission.{follows_last, is_text}

@@ -1,6 +1,6 @@
 -- What whole lists of pieces bring.
 use Rattle.std.specs.Prelude.{◌≡◌, List, ◌++◌, Some}
-use Rattle.ua_frame.specs.Streams.{Piece, TimedByte, timed, Framed, cuts_of, rest_of}
+use Rattle.ua_frame.specs.Streams.{Piece, timed}
 use Rattle.ua_conn.specs.Site.{Site}
 use Rattle.ua_conn.specs.Replies.{end_of, reply_bytes, handed}
 use Rattle.ua_conn.specs.Held.{stop}
