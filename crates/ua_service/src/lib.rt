@@ -12,6 +12,8 @@ mod other;
 mod read;
 mod request;
 mod response;
+#[cfg(test)]
+mod tests;
 
 pub use application::ApplicationDescription;
 pub use body::Body;

@@ -1,0 +1,220 @@
+//! Structures with another value in each field.
+
+use super::{are_texts, is_bytes, is_text, joined, reads};
+use crate::{
+    ApplicationDescription, CloseRequest, EndpointDescription, FindServersRequest,
+    FindServersResponse, GetEndpointsRequest, GetEndpointsResponse, OpenRequest, OpenResponse,
+    RequestHeader, ResponseHeader, ServiceFault, UserTokenPolicy,
+};
+use std::alloc::Global;
+use std::process::Abort;
+use std::test::Fail;
+use ua_value::{Identifier, Wire};
+use ua_variant::ExtensionBody;
+
+const REQUEST_HEADER: &[u8] =
+    b"\x01\x03\x05\x07\x08\x07\x06\x05\x04\x03\x02\x01\x0D\x0C\x0B\x0A\x11\0\0\0\x05\0\0\0audit\x10\x27\0\0\0\x09\x01\x02\0\0\0\xAA\xBB";
+
+const RESPONSE_HEADER: &[u8] =
+    b"\x08\x07\x06\x05\x04\x03\x02\x01\x0D\x0C\x0B\x0A\0\0\x0B\x80\x01\x05\0\0\0\x02\0\0\0\x01\0\0\0a\x02\0\0\0bc\0\x09\0";
+
+const OPEN_FIELDS: &[u8] = b"\x05\0\0\0\x01\0\0\0\xFE\xFF\xFF\xFF\x02\0\0\0\x01\x02\x80\xEE\x36\0";
+
+const OPENED_FIELDS: &[u8] =
+    b"\x05\0\0\0\x07\0\0\0\x03\0\0\0\x08\x07\x06\x05\x04\x03\x02\x01\x10\x27\0\0\x02\0\0\0\x03\x04";
+
+const QUESTION_FIELDS: &[u8] =
+    b"\x03\0\0\0url\x02\0\0\0\x02\0\0\0de\x02\0\0\0en\x01\0\0\0\x01\0\0\0s";
+
+const POLICY: &[u8] = b"\x01\0\0\0p\x4D\0\0\0\x01\0\0\0i\x01\0\0\0e\x01\0\0\0s";
+
+const APPLICATION: &[u8] =
+    b"\x01\0\0\0a\x01\0\0\0p\x03\x02\0\0\0en\x01\0\0\0N\x03\0\0\0\x01\0\0\0g\x01\0\0\0f\x02\0\0\0\x01\0\0\0u\x01\0\0\0v";
+
+const ENDPOINT: &[u8] =
+    b"\x01\0\0\0e\x01\0\0\0a\x01\0\0\0p\x03\x02\0\0\0en\x01\0\0\0N\x03\0\0\0\x01\0\0\0g\x01\0\0\0f\x02\0\0\0\x01\0\0\0u\x01\0\0\0v\x01\0\0\0\xAA\x03\0\0\0\x01\0\0\0s\x01\0\0\0\x01\0\0\0p\x4D\0\0\0\x01\0\0\0i\x01\0\0\0e\x01\0\0\0s\x01\0\0\0t\x07";
+
+/// A structure that knows the value of the bytes here.
+trait Sample {
+    fn is_sample(&self) -> bool;
+}
+
+/// The fields behind the front spell the sample.
+fn spells_the_sample<T: Wire + Sample>(
+    rt: &impl Abort,
+    alloc: Global,
+    front: &[u8],
+    fields: &[u8],
+) -> Result<(), Fail> {
+    let bytes = joined(alloc, front, fields)?;
+    let value = reads::<T>(rt, alloc, &bytes)?;
+    assert!(rt; value.is_sample());
+    Ok(())
+}
+
+impl Sample for RequestHeader {
+    fn is_sample(&self) -> bool {
+        self.authentication_token.namespace == 3
+            && matches!(
+                self.authentication_token.identifier,
+                Identifier::Numeric(0x0705)
+            )
+            && self.timestamp.0 == 0x0102_0304_0506_0708
+            && self.request_handle == 0x0A0B_0C0D
+            && self.return_diagnostics == 0x11
+            && is_text(&self.audit_entry_id, "audit")
+            && self.timeout_hint == 10000
+            && matches!(&self.additional_header.body, ExtensionBody::Bytes(body) if is_bytes(body, b"\xAA\xBB"))
+    }
+}
+
+impl Sample for ResponseHeader {
+    fn is_sample(&self) -> bool {
+        self.timestamp.0 == 0x0102_0304_0506_0708
+            && self.request_handle == 0x0A0B_0C0D
+            && self.service_result.0 == 0x800B_0000
+            && self.service_diagnostics.parts().symbolic_id == Some(5)
+            && are_texts(&self.string_table, &["a", "bc"])
+            && matches!(self.additional_header.body, ExtensionBody::None)
+    }
+}
+
+impl Sample for OpenRequest {
+    fn is_sample(&self) -> bool {
+        self.header.is_sample()
+            && self.client_protocol_version == 5
+            && self.request_type == 1
+            && self.security_mode == -2
+            && is_bytes(&self.client_nonce, b"\x01\x02")
+            && self.requested_lifetime == 3600000
+    }
+}
+
+impl Sample for OpenResponse {
+    fn is_sample(&self) -> bool {
+        self.header.is_sample()
+            && self.server_protocol_version == 5
+            && self.channel_id == 7
+            && self.token_id == 3
+            && self.created_at.0 == 0x0102_0304_0506_0708
+            && self.revised_lifetime == 10000
+            && is_bytes(&self.server_nonce, b"\x03\x04")
+    }
+}
+
+impl Sample for ApplicationDescription {
+    fn is_sample(&self) -> bool {
+        is_text(&self.application_uri, "a")
+            && is_text(&self.product_uri, "p")
+            && is_text(&self.application_name.locale, "en")
+            && is_text(&self.application_name.text, "N")
+            && self.application_type == 3
+            && is_text(&self.gateway_server_uri, "g")
+            && is_text(&self.discovery_profile_uri, "f")
+            && are_texts(&self.discovery_urls, &["u", "v"])
+    }
+}
+
+// The number of its type has no meaning yet.
+impl Sample for UserTokenPolicy {
+    fn is_sample(&self) -> bool {
+        is_text(&self.policy_id, "p")
+            && self.token_type == 77
+            && is_text(&self.issued_token_type, "i")
+            && is_text(&self.issuer_endpoint_url, "e")
+            && is_text(&self.security_policy_uri, "s")
+    }
+}
+
+impl Sample for EndpointDescription {
+    fn is_sample(&self) -> bool {
+        is_text(&self.endpoint_url, "e")
+            && self.server.is_sample()
+            && is_bytes(&self.server_certificate, b"\xAA")
+            && self.security_mode == 3
+            && is_text(&self.security_policy_uri, "s")
+            && matches!(self.user_identity_tokens.get(), Some([policy]) if policy.is_sample())
+            && is_text(&self.transport_profile_uri, "t")
+            && self.security_level == 7
+    }
+}
+
+impl Sample for FindServersRequest {
+    fn is_sample(&self) -> bool {
+        self.header.is_sample()
+            && is_text(&self.endpoint_url, "url")
+            && are_texts(&self.locale_ids, &["de", "en"])
+            && are_texts(&self.server_uris, &["s"])
+    }
+}
+
+impl Sample for GetEndpointsRequest {
+    fn is_sample(&self) -> bool {
+        self.header.is_sample()
+            && is_text(&self.endpoint_url, "url")
+            && are_texts(&self.locale_ids, &["de", "en"])
+            && are_texts(&self.profile_uris, &["s"])
+    }
+}
+
+impl Sample for FindServersResponse {
+    fn is_sample(&self) -> bool {
+        self.header.is_sample()
+            && matches!(self.servers.get(), Some([first, second]) if first.is_sample() && second.is_sample())
+    }
+}
+
+impl Sample for GetEndpointsResponse {
+    fn is_sample(&self) -> bool {
+        self.header.is_sample()
+            && matches!(self.endpoints.get(), Some([endpoint]) if endpoint.is_sample())
+    }
+}
+
+impl Sample for CloseRequest {
+    fn is_sample(&self) -> bool {
+        self.header.is_sample()
+    }
+}
+
+impl Sample for ServiceFault {
+    fn is_sample(&self) -> bool {
+        self.header.is_sample()
+    }
+}
+
+#[test]
+fn fields_of_headers(rt: HostRuntime) -> Result<(), Fail> {
+    let alloc = rt.alloc();
+    spells_the_sample::<RequestHeader>(&rt, alloc, REQUEST_HEADER, b"")?;
+    spells_the_sample::<CloseRequest>(&rt, alloc, REQUEST_HEADER, b"")?;
+    spells_the_sample::<ResponseHeader>(&rt, alloc, RESPONSE_HEADER, b"")?;
+    spells_the_sample::<ServiceFault>(&rt, alloc, RESPONSE_HEADER, b"")
+}
+
+#[test]
+fn fields_of_open_messages(rt: HostRuntime) -> Result<(), Fail> {
+    let alloc = rt.alloc();
+    spells_the_sample::<OpenRequest>(&rt, alloc, REQUEST_HEADER, OPEN_FIELDS)?;
+    spells_the_sample::<OpenResponse>(&rt, alloc, RESPONSE_HEADER, OPENED_FIELDS)
+}
+
+#[test]
+fn fields_of_endpoints(rt: HostRuntime) -> Result<(), Fail> {
+    let alloc = rt.alloc();
+    spells_the_sample::<UserTokenPolicy>(&rt, alloc, POLICY, b"")?;
+    spells_the_sample::<ApplicationDescription>(&rt, alloc, APPLICATION, b"")?;
+    spells_the_sample::<EndpointDescription>(&rt, alloc, ENDPOINT, b"")
+}
+
+#[test]
+fn fields_of_discovery(rt: HostRuntime) -> Result<(), Fail> {
+    let alloc = rt.alloc();
+    spells_the_sample::<FindServersRequest>(&rt, alloc, REQUEST_HEADER, QUESTION_FIELDS)?;
+    spells_the_sample::<GetEndpointsRequest>(&rt, alloc, REQUEST_HEADER, QUESTION_FIELDS)?;
+    let two = joined(alloc, APPLICATION, APPLICATION)?;
+    let two = joined(alloc, b"\x02\0\0\0", &two)?;
+    spells_the_sample::<FindServersResponse>(&rt, alloc, RESPONSE_HEADER, &two)?;
+    let one = joined(alloc, b"\x01\0\0\0", ENDPOINT)?;
+    spells_the_sample::<GetEndpointsResponse>(&rt, alloc, RESPONSE_HEADER, &one)
+}
