@@ -1,6 +1,6 @@
 //! The server's channel.
 
-ghost use Rattle.std.specs.Prelude.{◌≡◌, ◌<◌, ◌^◌, max, Ok, Err, Some, None, IfOk, IfErr, OnOk, OnErr};
+ghost use Rattle.std.specs.Prelude.{◌≡◌, ◌<◌, ◌^◌, ◌==◌, length, not, max, Ok, Err, Some, None, IfOk, IfErr, OnOk, OnErr};
 ghost use Rattle.ua_frame.specs.Rows.{first_row};
 ghost use Rattle.ua_frame.specs.Streams.{moment_of};
 ghost use Rattle.ua_channel.specs.Token.{next_token};
@@ -172,6 +172,13 @@ impl ServerChannel {
         note_used(&mut self.used, chunk.token());
         self.moment = now;
         Ok(())
+    }
+
+    /// Whether a token was issued, so that messages may come. OPC 10000-4, 5.6.2.
+    pub fn is_open(&self) -> bool
+        ensures { result ≡ not (length self.now.channel.tokens == 0) }
+    {
+        !self.tokens.is_none()
     }
 
     /// The token that the server sends with: the newest that the client has used. None before it used one.

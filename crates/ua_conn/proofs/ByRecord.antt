@@ -20,7 +20,7 @@ newest_append : (fs gs : List Frame) (past : Past) → newest_first (fs ++ gs) p
 newest_append [] gs past = refl
 newest_append (f ∷ fs) gs past = newest_append fs gs (f ∷ past)
 
-none_fails : (e : End) → stop e ≡ None → failing e ≡ []
+pub none_fails : (e : End) → stop e ≡ None → failing e ≡ []
 none_fails Closed h = absurd (cc)
 none_fails InputEnded h = refl
 none_fails Truncated h = refl

@@ -13,3 +13,15 @@ pub mod LegalLaw
 pub mod Vectors
 pub mod Opening
 pub mod Rows
+pub mod Judged
+pub mod ByType
+pub mod Takes
+pub mod Said
+pub mod Acted
+pub mod Parted
+pub mod Carried
+pub mod Lengths
+pub mod Fronts
+pub mod FrameByFrame
+pub mod OnePieceMore
+pub mod Answered

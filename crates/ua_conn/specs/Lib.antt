@@ -8,3 +8,11 @@ pub mod Machine
 pub mod FirstFault
 pub mod Legal
 pub mod Whole
+pub mod Effects
+pub mod Taking
+pub mod Ranges
+pub mod Unread
+pub mod Opening
+pub mod Parts
+pub mod Settled
+pub mod Feeding

@@ -6,7 +6,7 @@ use Rattle.ua_frame.specs.Hello.{hello_of, negotiated}
 use Rattle.ua_frame.specs.declared.kind.Kind.{Kind}
 use Rattle.ua_frame.specs.declared.kind.Kind.TheVariants as kinds
 use Rattle.ua_frame.specs.declared.hello.Hello.{Hello}
-use Rattle.ua_frame.specs.declared.acknowledge.Ack.{Ack}
+use Rattle.ua_frame.specs.declared.limits.Limits.{Limits}
 use Rattle.ua_chunk.specs.Layout.{OpenChunk, Chunk, open_chunk_of, chunk_of}
 use Rattle.ua_chunk.specs.Half.{Half, ends_message}
 use Rattle.ua_channel.specs.declared.token.Token.{Token}
@@ -14,6 +14,7 @@ use Rattle.ua_channel.specs.Token.{revised, two_newest}
 use Rattle.ua_channel.specs.Channel.{most}
 use Rattle.ua_service.specs.declared.channel.OpenRequest.{OpenRequest}
 use Rattle.ua_conn.specs.Site.{Site}
+pub use Rattle.ua_conn.specs.declared.agreed.Agreed.{Agreed}
 use Rattle.ua_service.specs.ChannelMessages.{open_of}
 
 -- the frames before a place, newest first
@@ -71,14 +72,12 @@ asked_open f = open_of (body_of (open_in f))
 
 -- ---- the limits
 
--- What the Acknowledge says, and, for answers alone, the two limits of the Hello itself. OPC 10000-6, 7.1.2.3 and 7.1.2.4.
-pub record Agreed : Type 0 where
-  pub ack : Ack
-  pub answer_bytes : ℕ
-  pub answer_parts : ℕ
+-- What the Hello and the limits of a server agree on. OPC 10000-6, 7.1.2.3 and 7.1.2.4.
+abbrev pub agreed_by : Limits → Hello → Agreed
+agreed_by limits h = record { ack = negotiated limits h; answer_bytes = h.max_message; answer_parts = h.max_chunks }
 
 abbrev pub agreed : Site → Hello → Agreed
-agreed site h = record { ack = negotiated site.limits h; answer_bytes = h.max_message; answer_parts = h.max_chunks }
+agreed site h = agreed_by site.limits h
 
 abbrev pub limits_of : Site → Frame → Option Agreed
 limits_of site f = option_map (agreed site) (hello_in f)

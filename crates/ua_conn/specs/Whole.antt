@@ -12,3 +12,10 @@ StaysStopped = (site : Site) (ps qs : List Piece) (ending : End) → stop (end_o
     (reply_bytes site (timed (ps ++ qs)) ≡ reply_bytes site (timed ps))
     × (handed site (timed (ps ++ qs)) ≡ handed site (timed ps))
     × (end_of site (timed (ps ++ qs)) ≡ end_of site (timed ps))
+
+-- what is answered depends on the timed stream alone
+abbrev pub SameForAnyCut : Type 0
+SameForAnyCut = (site : Site) (ps qs : List Piece) → timed ps ≡ timed qs →
+    (reply_bytes site (timed ps) ≡ reply_bytes site (timed qs))
+    × (handed site (timed ps) ≡ handed site (timed qs))
+    × (end_of site (timed ps) ≡ end_of site (timed qs))

@@ -6,7 +6,7 @@ ghost use Rattle.ua_conn.specs.FirstFault.{StopsFirst};
 ghost use Rattle.ua_conn.specs.Held.{ByRecord};
 ghost use Rattle.ua_conn.specs.Legal.{HasRoom, BeginsLegal};
 ghost use Rattle.ua_conn.specs.Site.{Site};
-ghost use Rattle.ua_conn.specs.Whole.{StaysStopped};
+ghost use Rattle.ua_conn.specs.Whole.{StaysStopped, SameForAnyCut};
 
 /// A stream is one list of frames and one rest, those of `cuts_of` and `rest_of`. OPC 10000-6, 7.1.2.2.
 pub fn framed()
@@ -29,6 +29,11 @@ pub fn first_fault()
 /// Once a stream has a fault or a CLO, what comes later changes neither reply, requests nor end.
 pub fn stays_stopped()
     ensures { StaysStopped }
+{}
+
+/// Lists of pieces with one timed stream get one answer: one reply, the same requests handed on, and one end.
+pub fn same_for_any_cut()
+    ensures { SameForAnyCut }
 {}
 
 /// A server that takes frames of 8192 bytes refuses nothing in a list of frames, with nothing behind a CLO, exactly

@@ -1,4 +1,6 @@
-//! How a connection ends.
+//! How a connection ends, and what a whole one is answered.
+
+use ua_service::Request;
 
 /// How a connection came to its end.
 #[derive(Clone, Copy, Debug, PartialEq, Eq)]
@@ -17,4 +19,15 @@ pub enum End {
     TurnsSpent,
     /// Memory ran out.
     NoMemory,
+}
+
+/// What the server's end of a connection answers to a whole input, and how it ends.
+#[derive(Drop)]
+pub struct Outcome {
+    /// The bytes of all frames that the server writes, in order.
+    pub reply: Vec<u8>,
+    /// The requests that the input made whole, in order.
+    pub handed: Vec<Request>,
+    /// How the connection ended.
+    pub end: End,
 }

@@ -1,0 +1,162 @@
+//! The server's end of a connection.
+
+ghost use Rattle.std.specs.Prelude.{◌≡◌, ◌<◌, ◌≤◌, ◌^◌, ◌↔◌, [], drop, vec_len, true, false, None, IfOk, OnErr, IsErrOf};
+ghost use Rattle.ua_frame.specs.Streams.{moment_of as counted};
+ghost use Rattle.ua_conn.specs.Site.{Site};
+ghost use Rattle.ua_conn.specs.Replies.{ended};
+ghost use Rattle.ua_conn.specs.Held.{held};
+ghost use Rattle.ua_conn.specs.Feeding.{FeedsAll, FeedsPartAll};
+
+use crate::connection::Connection;
+use crate::hearing::hear;
+use crate::outcome::End;
+use crate::settings::Settings;
+use std::alloc::{AllocError, Global};
+use std::marker::Model;
+use ua_service::Request;
+use ua_value::NoMemory;
+
+/// Why a piece was not taken.
+#[derive(Clone, Copy, Debug, PartialEq, Eq)]
+pub enum FeedFault {
+    /// A growth was refused. The server has failed; what the output gained is whole frames.
+    NoMemory,
+    /// The server had failed or ended before, and nothing changed.
+    Ended,
+}
+
+impl From<AllocError> for FeedFault {
+    ghost use Rattle.ua_conn.specs.declared.server.FeedFault.TheVariants.{NoMemory as OutOfMemory};
+
+    ghost from_gives = { λ _ e. e ≡ OutOfMemory };
+
+    fn from(_e: AllocError) -> FeedFault {
+        FeedFault::NoMemory
+    }
+}
+
+/// What a piece brought.
+#[derive(Drop)]
+pub struct Fed {
+    /// The requests that it made whole, in their order. Each was answered.
+    pub requests: Vec<Request>,
+    /// How the connection ended with it: [`End::Closed`] or [`End::Refused`], or not at all.
+    pub end: Option<End>,
+}
+
+fn remove_front(bytes: &mut Vec<u8>, n: usize)
+    requires { n ≤ vec_len bytes.old }
+    ensures { bytes.new.items ≡ drop n bytes.old.items }
+{
+    if n > 0 {
+        let len = bytes.len();
+        bytes.rotate_left(n);
+        bytes.truncate(len - n);
+    }
+}
+
+/// A clock's moment, where one before 0 counts as 0.
+fn moment_of(now: i64) -> u64
+    ensures moment { result ≡ counted now }
+    ensures clock { result < 2 ^ 63 }
+{
+    if now < 0 { 0 } else { now as u64 }
+}
+
+/// The server's end of one connection.
+///
+/// It takes the client's bytes in any pieces, keeps those of a frame that is not whole yet, and appends what it
+/// says to an output of the caller's. OPC 10000-6, 6.7 and 7.1.
+#[derive(Drop)]
+pub struct Server<'a> {
+    alloc: Global,
+    connection: Connection<'a>,
+    rest: Vec<u8>,
+    moment: u64,
+    failed: bool,
+}
+
+impl<'a> Model for Server<'a> {
+    ghost use Rattle.ua_conn.specs.Feeding.{Shown, IsTimely};
+
+    ghost Value = { Shown };
+
+    ghost view = { λ s. record {
+      site = s.connection.site;
+      held = record { known = s.connection.known; next = s.connection.next; moment = s.moment; rest = s.rest.items };
+      failed = s.failed;
+    } };
+
+    ghost invariant = { λ s. IsTimely s.connection.moment s.moment s.failed };
+}
+
+impl<'a> Server<'a> {
+    /// A server that has heard nothing yet, for the channel with this id, which is not 0.
+    ///
+    /// `Err` says that a growth was refused.
+    pub fn new(
+        alloc: Global,
+        settings: &'a Settings,
+        channel_id: u32,
+    ) -> Result<Server<'a>, NoMemory>
+        requires { 0 < channel_id }
+        ensures { IfOk result (λ server. let site : Site = record { limits = settings.now; channel = channel_id } in
+            server ≡ record { site = site; held = held site []; failed = false }) }
+    {
+        let connection = Connection::new(alloc, settings, channel_id)?;
+        Ok(Server {
+            alloc,
+            connection,
+            rest: Vec::new(alloc),
+            moment: 0,
+            failed: false,
+        })
+    }
+
+    /// Takes one more piece, which came at `now`: ticks of 100 ns since 1601-01-01 UTC. A moment before 0, or before
+    /// that of an earlier piece, counts as that.
+    ///
+    /// `out` gains what the server says to the piece: an Acknowledge, open responses, answers, or one error where a
+    /// frame is refused. The result has the requests that the piece made whole, and the end that it brings, if any:
+    /// a close, or a refusal with its status. The server takes no more after an end. `NoMemory` says that a growth
+    /// was refused; `out` has then gained whole frames that begin what the piece is answered, and the server takes no
+    /// more either. `Ended` says that it took no more already; nothing has changed. OPC 10000-6, 6.7.2 to 6.7.4 and
+    /// 7.1.2.3 to 7.1.2.5; OPC 10000-4, 5.6.2 and 5.6.3.
+    pub fn feed(&mut self, now: i64, piece: &[u8], out: &mut Vec<u8>) -> Result<Fed, FeedFault>
+        ensures fed { IfOk result (λ fed. FeedsAll self.old (record { moment = counted now; bytes = piece.now }) out.old.items out.new.items fed.requests.items fed.end self.new) }
+
+        // Want of memory and an end before this piece.
+        ensures part { IsErrOf result FeedFault.NoMemory → FeedsPartAll self.old (record { moment = counted now; bytes = piece.now }) out.old.items out.new.items }
+        ensures failed { OnErr result (self.new.failed ≡ true) }
+        ensures ended { IsErrOf result FeedFault.Ended ↔ (self.old.failed ≡ true) }
+        ensures unchanged { self.old.failed ≡ true → (self.new ≡ self.old) × (out.new.items ≡ out.old.items) }
+    {
+        if self.failed {
+            return Err(FeedFault::Ended);
+        }
+        self.failed = true;
+        let now = self.moment.max(moment_of(now));
+        self.rest.extend_from_slice(piece)?;
+        let mut requests = Vec::new(self.alloc);
+        let heard = hear(&mut self.connection, now, &self.rest, &mut requests, out)?;
+        let end = heard.end;
+        if end.is_some() {
+            return Ok(Fed { requests, end });
+        }
+        remove_front(&mut self.rest, heard.used);
+        self.moment = now;
+        self.failed = false;
+        Ok(Fed { requests, end })
+    }
+
+    /// How the connection ends where no more bytes come and no end came before.
+    pub fn end_of_input(&self) -> End
+        ensures { result ≡ ended None self.now.held.rest }
+    {
+        if self.rest.is_empty() {
+            End::InputEnded
+        } else {
+            End::Truncated
+        }
+    }
+}
