@@ -4,23 +4,23 @@ use Rattle.std.specs.Fmt.{digits}
 use Rattle.std.specs.Io.KnownBytes.{Appends}
 use Rattle.hex.specs.Hex.{encode_lower}
 use Rattle.ua_frame.specs.Streams.{Piece, TimedByte, moment_of, timed}
-use Rattle.ua_frame.specs.declared.limits.Limits.{Limits}
 use Rattle.uadisc.specs.End.{end_status}
-use Rattle.uadisc.specs.Replies.{reply_bytes, end_of}
+use Rattle.ua_conn.specs.Replies.{reply_bytes, end_of}
+use Rattle.ua_conn.specs.Site.{Site}
+use Rattle.ua_conn.specs.declared.outcome.End.{End}
+use Rattle.ua_conn.specs.declared.outcome.End.TheVariants.{Closed, InputEnded, Truncated, Refused, LinkFailed, TurnsSpent, NoMemory}
 use Rattle.uadisc.specs.Script.{Timed, script_in}
-use Rattle.uadisc.specs.declared.outcome.End.{End}
-use Rattle.uadisc.specs.declared.outcome.End.TheVariants.{InputEnded, Truncated, Refused}
 
--- the limits of the built-in settings
-abbrev pub default_limits : Limits
-default_limits = record { receive = 65535; send = 65535; max_message = 1048576; max_chunks = 64 }
+-- a server of the built-in settings, with channel 1
+abbrev pub default_site : Site
+default_site = record { limits = record { receive = 65535; send = 65535; max_message = 1048576; max_chunks = 64 }; channel = 1 }
 
--- what a server of the built-in settings answers to a stream, and how it ends
+-- what it answers to a stream, and how it ends
 abbrev pub answered : List TimedByte → List ℕ
-answered s = reply_bytes default_limits s
+answered s = reply_bytes default_site s
 
 abbrev pub ending : List TimedByte → End
-ending s = end_of default_limits s
+ending s = end_of default_site s
 
 abbrev pub piece_of : Timed → Piece
 piece_of p = record { moment = moment_of p.0; bytes = p.1 }
@@ -34,9 +34,13 @@ abbrev pub status_text : ℕ → List ℕ
 status_text status = replicate (8 - length (digits 16 true status)) 48 ++ digits 16 true status
 
 abbrev pub end_text : End → List ℕ
+end_text Closed = codes "closed"
 end_text InputEnded = codes "input-ended"
 end_text Truncated = codes "truncated"
 end_text (Refused status) = codes "refused " ++ status_text status
+end_text LinkFailed = codes "link-failed"
+end_text TurnsSpent = codes "turns-spent"
+end_text NoMemory = codes "memory"
 
 -- the reply in hex on one line, and the end on another
 abbrev pub answer_lines : List ℕ → End → List ℕ

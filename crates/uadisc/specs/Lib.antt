@@ -6,12 +6,3 @@ pub mod Printed
 pub mod End
 pub mod Answer
 pub mod Run
-pub mod Past
-pub mod Faults
-pub mod Replies
-pub mod Held
-pub mod Machine
-pub mod FirstFault
-pub mod Whole
-pub mod Looking
-pub mod Feeding

@@ -6,24 +6,17 @@ ghost use Rattle.uadisc.specs.End.{end_status};
 ghost use Rattle.uadisc.specs.Script.{script_in, times};
 ghost use Rattle.uadisc.specs.Stop.{IsInputStop, IsQuiet};
 
-use crate::conversation::hello_all;
 use crate::input::read_whole;
-use crate::outcome::{End, HelloOutcome};
 use crate::script::{TimedPiece, script_of};
 use crate::stop::{Stop, print};
 use std::alloc::Global;
 use std::fmt;
 use std::io::{Read, Write};
-use ua_frame::Limits;
+use ua_conn::{End, Outcome, Settings, answer_all};
 use ua_value::NoMemory;
 
-/// The limits of the built-in settings.
-const LIMITS: Limits = Limits {
-    receive: 65535,
-    send: 65535,
-    max_message: 1_048_576,
-    max_chunks: 64,
-};
+/// The id of the channel that a connection of the command has.
+const CHANNEL: u32 = 1;
 
 /// How a connection ended, as the command prints it.
 #[derive(Clone, Copy)]
@@ -34,9 +27,13 @@ impl fmt::Display for Ending {
 
     fn fmt<W: fmt::Write>(&self, f: &mut fmt::Formatter<W>) -> fmt::Result {
         match self.0 {
+            End::Closed => f.write_str("closed"),
             End::InputEnded => f.write_str("input-ended"),
             End::Truncated => f.write_str("truncated"),
             End::Refused(status) => write!(f, "refused {}", Code(status)),
+            End::LinkFailed => f.write_str("link-failed"),
+            End::TurnsSpent => f.write_str("turns-spent"),
+            End::NoMemory => f.write_str("memory"),
         }
     }
 }
@@ -55,7 +52,7 @@ impl fmt::Display for Code {
 }
 
 /// What the pieces are answered.
-fn answered(alloc: Global, pieces: &[TimedPiece]) -> Result<HelloOutcome, NoMemory>
+fn answered(alloc: Global, pieces: &[TimedPiece]) -> Result<Outcome, NoMemory>
     ensures reply { IfOk result (λ outcome. outcome.reply.items ≡ answered_bytes (stream_of (times pieces.now))) }
     ensures end { IfOk result (λ outcome. outcome.end ≡ ending (stream_of (times pieces.now))) }
 {
@@ -63,7 +60,7 @@ fn answered(alloc: Global, pieces: &[TimedPiece]) -> Result<HelloOutcome, NoMemo
     'pieces: for piece in pieces {
         lent.push((piece.moment, piece.bytes.as_slice()))?;
     }
-    hello_all(alloc, &LIMITS, lent.as_slice())
+    answer_all(alloc, &Settings::builtin(), CHANNEL, lent.as_slice())
 }
 
 /// The reply in hex on one line, and the end on another.
@@ -75,13 +72,16 @@ fn lines(alloc: Global, reply: &[u8], end: End) -> Result<String, NoMemory>
     Ok(text)
 }
 
-/// The exit status of an end: 0 where the input ended behind a whole frame, else 1.
+/// The exit status of an end: 0 where a close came or the input ended behind a whole frame, 1 where a frame was
+/// refused or cut, 3 where the link failed, 4 for want of memory.
 fn status_of(end: End) -> u8
     ensures { result ≡ end_status end }
 {
     match end {
-        End::InputEnded => 0,
+        End::Closed | End::InputEnded | End::TurnsSpent => 0,
         End::Truncated | End::Refused(_) => 1,
+        End::LinkFailed => 3,
+        End::NoMemory => 4,
     }
 }
 
@@ -96,7 +96,7 @@ fn pieces_in<I: Read>(alloc: Global, input: &mut I) -> Result<Vec<TimedPiece>, S
 }
 
 /// Answers the pieces that the input gives, prints the reply and the end, and gives the exit
-/// status: 0 where the input ended behind a whole frame, else 1.
+/// status: 0 where a close came or the input ended behind a whole frame, else 1.
 ///
 /// Nothing is printed before the input was read to its end, all of its lines were understood and
 /// the lines of the answer are made.

@@ -3,20 +3,13 @@
 
 mod answer;
 mod command;
-mod conversation;
 mod input;
-mod laws;
-mod looking;
-mod outcome;
 mod run;
 mod script;
-mod server;
 mod stop;
 mod text;
 mod type_name;
 mod value;
-#[cfg(test)]
-mod vectors;
 
 use crate::run::{run, told};
 use crate::stop::Stop;
