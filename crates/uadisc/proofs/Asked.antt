@@ -1,36 +1,15 @@
--- What the words ask for, and that bad words ask for nothing.
-use Rattle.std.proofs.Common.{◌≡◌, List, [], ◌∷◌, Option, Some, None, Result, Ok, Err, IfOk, IfErr, option_map, sym, ◌∙◌, true≢false, is_some, ap, subst, codes, refl, inl, inr, true}
+-- What the words that clap takes ask for, by the matches.
+use Rattle.std.proofs.Common.{◌≡◌, List, [], Option, Some, Result, Ok, Err, IfOk, IfErr, sym, ◌∙◌, ap, subst, codes, refl, true}
 use Rattle.std.proofs.lemmas.Option.{same_Some}
-use Rattle.clap.specs.Words.{App, Row, Text, HasKind, IsAmong, Kinds, HasMatchesOf, fault_of, is_simple_and_free, subcommand_of, subcommand_rows_of, first_of, rows_of, first_value}
-use Rattle.clap.specs.Values.{kind_of}
+use Rattle.clap.specs.Words.{App, Row, Text, HasMatchesOf, fault_of, is_simple_and_free, subcommand_of, subcommand_rows_of, first_of, rows_of, first_value}
 use Rattle.clap.proofs.WalkLemmas.{first_value-rows}
 use Rattle.clap.specs.declared.parser.matches.Found.{Found}
 use Rattle.clap.specs.declared.parser.matches.ArgMatches.{ArgMatches}
-use Rattle.clap.specs.declared.error.Error.{Error}
-use Rattle.clap.specs.declared.error.kind.ErrorKind.{ErrorKind}
-use Rattle.uadisc.specs.Command.{Asks, AsksFor, RefusedBy, IsWordsFault, IsErrorFault, IsAnswerOf, IsValueOf, IsHexOf, uadisc}
+use Rattle.uadisc.specs.Command.{Asks, AsksFor, RefusedBy, IsWordsFault, IsAnswerOf, IsValueOf, IsHexOf, uadisc}
 use Rattle.uadisc.specs.declared.command.Command.{Command}
 use Rattle.uadisc.specs.declared.command.Command.TheVariants.{Answer, Value}
 use Rattle.uadisc.specs.declared.command.WordsFault.{WordsFault}
 use Rattle.uadisc.specs.declared.command.WordsFault.TheVariants.{Refused, NoMemory}
-
--- ---- what clap refuses
-
-among_none : (kinds : Kinds) (k : ErrorKind) → IsAmong k kinds → kinds ≡ [] → ⊥
-among_none [] k h e = h
-among_none (x ∷ xs) k h e = absurd (cc)
-
-clap_refuses : (words : List Text) (e : Error) (fault : WordsFault) → HasKind (fault_of uadisc words) e → IsErrorFault (kind_of e) fault → IsWordsFault words fault
-clap_refuses words e (Refused text) kinds never = λ c asked. elim kinds [
-  | inl memory ↦ never memory
-  | inr among ↦ among_none (fault_of uadisc words) (kind_of e) among asked.taken
-]
-clap_refuses words e NoMemory kinds never = tt
-
-pub words_refused : (a : App) (words : List Text) (e : Error) (fault : WordsFault) → a ≡ uadisc → (is_simple_and_free a ≡ true → HasKind (fault_of a words) e) → IsErrorFault (kind_of e) fault → IsWordsFault words fault
-words_refused a words e fault same kinds never =
-    let known : is_simple_and_free uadisc ≡ true → HasKind (fault_of uadisc words) e = subst (λ x. is_simple_and_free x ≡ true → HasKind (fault_of x words) e) same kinds in
-    clap_refuses words e fault (known refl) never
 
 -- ---- what clap takes
 
@@ -57,18 +36,6 @@ pub none_asked : (a : App) (words : List Text) (m : ArgMatches) (r : Result Comm
 none_asked a words m r same matches h = not_named words r (subst (λ found. IfErr r (RefusedBy (Asks found))) (rows_are a words m matches same) h)
 
 -- ---- by the subcommand
-
-no_value_of : {A : Type 0} (x : A) → None ≡ Some x → ⊥
-no_value_of x e = true≢false (sym (ap is_some e))
-
-pub no_subcommand : (o : Option (Text × List Row)) → None ≡ option_map (λ p. p.1) o → (c : Command) → Asks o c → ⊥
-no_subcommand (Some p) e c h = no_value_of p.1 e
-no_subcommand None e Answer h = no_value_of _ h.1
-no_subcommand None e (Value kind bytes) h = no_value_of _ h.1
-
-pub other_name : (name : Text) (rows : List Row) → (name ≡ codes "answer" → ⊥) → (name ≡ codes "value" → ⊥) → (c : Command) → Asks (Some (name, rows)) c → ⊥
-other_name name rows no_answer no_value Answer h = no_answer (ap (λ p. p.0) (same_Some _ _ h.1))
-other_name name rows no_answer no_value (Value kind bytes) h = no_value (ap (λ p. p.0) (same_Some _ _ h.1))
 
 two_names : codes "answer" ≡ codes "value" → ⊥
 two_names e = absurd (cc)
