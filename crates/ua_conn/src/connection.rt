@@ -13,8 +13,6 @@ mod close;
 mod hello;
 mod message;
 mod opening;
-#[cfg(test)]
-mod tests;
 
 use crate::agreed::Agreed;
 use crate::fault::Fault;

@@ -17,3 +17,6 @@ pub use conversation::answer_all;
 pub use outcome::{End, Outcome};
 pub use server::{Fed, FeedFault, Server};
 pub use settings::Settings;
+
+#[cfg(test)]
+mod tests;
