@@ -37,7 +37,8 @@ const CHUNKS: &[u8] = b"\0\0\0\0\x18\0\0\0opc.tcp://localhost:4840";
 const SMALLER: &[u8] = b"ACKF\x1C\0\0\0\0\0\0\0\xFF\xFF\0\0\0\x20\0\0\0\0\x10\0\x40\0\0\0";
 
 /// An open request for another policy, up to the end of its security header.
-const SIGNED: &[u8] = b"OPNF\x8E\0\0\0\0\0\0\0\x39\0\0\0http://opcfoundation.org/UA/SecurityPolicy#Basic256Sha256\xFF\xFF\xFF\xFF\xFF\xFF\xFF\xFF";
+const SIGNED: &[u8] =
+    b"OPNF\x8E\0\0\0\0\0\0\0\x39\0\0\0http://opcfoundation.org/UA/SecurityPolicy#Basic256Sha256\xFF\xFF\xFF\xFF\xFF\xFF\xFF\xFF";
 
 const BAD_TYPE: &[u8] = b"ERRF\x10\0\0\0\0\0\x7E\x80\xFF\xFF\xFF\xFF";
 
@@ -172,33 +173,25 @@ const ROWS: [Row; 22] = [
     ),
     (
         "answers of 27 bytes",
-        &[
-            BUFFERS,
-            b"\x1B\0\0\0",
-            CHUNKS,
-            OPEN_REQUEST,
-            OTHER_REQUEST,
-        ],
+        &[BUFFERS, b"\x1B\0\0\0", CHUNKS, OPEN_REQUEST, OTHER_REQUEST],
         &[ACKNOWLEDGE, OPEN_RESPONSE, ABORT_TOO_LARGE],
         1,
         End::InputEnded,
     ),
     (
         "answers of 28 bytes",
-        &[
-            BUFFERS,
-            b"\x1C\0\0\0",
-            CHUNKS,
-            OPEN_REQUEST,
-            OTHER_REQUEST,
-        ],
+        &[BUFFERS, b"\x1C\0\0\0", CHUNKS, OPEN_REQUEST, OTHER_REQUEST],
         &[ACKNOWLEDGE, OPEN_RESPONSE, FAULT_RESPONSE],
         1,
         End::InputEnded,
     ),
     (
         "short chunk",
-        &[HELLO, OPEN_REQUEST, b"MSGF\x17\0\0\0\x01\0\0\0\x01\0\0\0\x02\0\0\0\x02\0\0"],
+        &[
+            HELLO,
+            OPEN_REQUEST,
+            b"MSGF\x17\0\0\0\x01\0\0\0\x01\0\0\0\x02\0\0\0\x02\0\0",
+        ],
         &[ACKNOWLEDGE, OPEN_RESPONSE, BAD_LAYOUT],
         0,
         End::Refused(0x8007_0000),
@@ -206,7 +199,11 @@ const ROWS: [Row; 22] = [
     (
         "second opening by issue",
         &[HELLO, OPEN_REQUEST, OPEN_REQUEST],
-        &[ACKNOWLEDGE, OPEN_RESPONSE, b"ERRF\x10\0\0\0\0\0\x7F\x80\xFF\xFF\xFF\xFF"],
+        &[
+            ACKNOWLEDGE,
+            OPEN_RESPONSE,
+            b"ERRF\x10\0\0\0\0\0\x7F\x80\xFF\xFF\xFF\xFF",
+        ],
         0,
         End::Refused(0x807F_0000),
     ),
@@ -323,11 +320,27 @@ fn other_policies_and_modes_are_refused(rt: HostRuntime) -> Result<(), Fail> {
     let alloc = rt.alloc();
     let signed = joined(alloc, &[HELLO, SIGNED, &OPEN_REQUEST[71..]])?;
     let reply = joined(alloc, &[ACKNOWLEDGE, BAD_POLICY])?;
-    check(&rt, alloc, "policy", &signed, &reply, 0, End::Refused(0x8055_0000))?;
+    check(
+        &rt,
+        alloc,
+        "policy",
+        &signed,
+        &reply,
+        0,
+        End::Refused(0x8055_0000),
+    )?;
     let open = changed(alloc, OPEN_REQUEST, MODE_AT, b"\x02")?;
     let signing = joined(alloc, &[HELLO, &open])?;
     let reply = joined(alloc, &[ACKNOWLEDGE, BAD_MODE])?;
-    check(&rt, alloc, "mode", &signing, &reply, 0, End::Refused(0x8054_0000))?;
+    check(
+        &rt,
+        alloc,
+        "mode",
+        &signing,
+        &reply,
+        0,
+        End::Refused(0x8054_0000),
+    )?;
     Ok(())
 }
 
@@ -339,7 +352,10 @@ fn aborted_message_is_dropped(rt: HostRuntime) -> Result<(), Fail> {
     let second = chunk(alloc, b"MSGC", 1, 3, 2, b"\xA6")?;
     let abort = chunk(alloc, b"MSGA", 1, 4, 2, b"\0\0\x80\x80\xFF\xFF\xFF\xFF")?;
     let find = chunk(alloc, b"MSGF", 1, 5, 3, FIND_BODY)?;
-    let input = joined(alloc, &[HELLO, OPEN_REQUEST, &first, &second, &abort, &find])?;
+    let input = joined(
+        alloc,
+        &[HELLO, OPEN_REQUEST, &first, &second, &abort, &find],
+    )?;
     let fault = changed(alloc, FAULT_RESPONSE, 20, b"\x03")?;
     let reply = joined(alloc, &[ACKNOWLEDGE, OPEN_RESPONSE, &fault])?;
     check(&rt, alloc, "aborted", &input, &reply, 1, End::InputEnded)?;
@@ -416,9 +432,16 @@ fn token_lives_a_quarter_longer_than_its_lifetime(rt: HostRuntime) -> Result<(),
     let (reply, end) = at_moments(alloc, 124_999_999, 124_999_999)?;
     let fault = changed(alloc, FAULT_RESPONSE, 28, &124_999_999_u64.to_le_bytes())?;
     let answered = joined(alloc, &[&opened, &fault])?;
-    assert_eq!(&rt; (reply.as_slice(), end), (answered.as_slice(), End::InputEnded));
+    assert_eq!(&rt;
+        (reply.as_slice(), end),
+        (answered.as_slice(), End::InputEnded)
+    );
     let refused = joined(alloc, &[&opened, BAD_TOKEN])?;
-    for (first, second) in [(125_000_000, 125_000_000), (0, 125_000_000), (125_000_000, 0)] {
+    for (first, second) in [
+        (125_000_000, 125_000_000),
+        (0, 125_000_000),
+        (125_000_000, 0),
+    ] {
         let (reply, end) = at_moments(alloc, first, second)?;
         assert_eq!(&rt; end, End::Refused(0x8087_0000), "{first} {second}");
         assert_eq!(&rt; reply.as_slice(), refused.as_slice(), "{first} {second}");
@@ -475,7 +498,15 @@ fn sixty_fifth_part_is_refused(rt: HostRuntime) -> Result<(), Fail> {
     let part = chunk(alloc, b"MSGC", 1, 66, 2, b"")?;
     input.extend_from_slice(&part)?;
     let refused = joined(alloc, &[&opened, TOO_LARGE])?;
-    check(&rt, alloc, "65 parts", &input, &refused, 0, End::Refused(0x8080_0000))?;
+    check(
+        &rt,
+        alloc,
+        "65 parts",
+        &input,
+        &refused,
+        0,
+        End::Refused(0x8080_0000),
+    )?;
     Ok(())
 }
 
@@ -498,7 +529,14 @@ fn answers_name_the_newest_token_that_was_used(rt: HostRuntime) -> Result<(), Fa
     let still = chunk(alloc, b"MSGF", 2, 5, 2, body)?;
     let reply = joined(
         alloc,
-        &[ACKNOWLEDGE, OPEN_RESPONSE, &renewed, &by_old, &by_new, &still],
+        &[
+            ACKNOWLEDGE,
+            OPEN_RESPONSE,
+            &renewed,
+            &by_old,
+            &by_new,
+            &still,
+        ],
     )?;
     check(&rt, alloc, "renewal", &input, &reply, 3, End::InputEnded)?;
     Ok(())
@@ -511,9 +549,13 @@ fn server_takes_no_more_after_an_end(rt: HostRuntime) -> Result<(), Fail> {
     let mut server = Server::new(alloc, &settings, 1)?;
     let mut out = Vec::new(alloc);
     let input = joined(alloc, &[HELLO, OPEN_REQUEST, OTHER_REQUEST])?;
-    let fed = server.feed(0, &input, &mut out).expect(&rt, "frames in order");
+    let fed = server
+        .feed(0, &input, &mut out)
+        .expect(&rt, "frames in order");
     assert_eq!(&rt; (fed.requests.len(), fed.end), (1, None));
-    let fed = server.feed(0, CLOSE_REQUEST, &mut out).expect(&rt, "a close request");
+    let fed = server
+        .feed(0, CLOSE_REQUEST, &mut out)
+        .expect(&rt, "a close request");
     assert_eq!(&rt; (fed.requests.len(), fed.end), (0, Some(End::Closed)));
     let said = joined(alloc, &[ACKNOWLEDGE, OPEN_RESPONSE, FAULT_RESPONSE])?;
     assert_eq!(&rt; out.as_slice(), said.as_slice());

@@ -1,0 +1,3 @@
+pub mod EachItem
+pub mod Rows
+pub mod Sizes

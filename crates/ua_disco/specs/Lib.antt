@@ -1,0 +1,9 @@
+pub mod Answers
+pub mod Bounds
+pub mod Choosing
+pub mod Configuration
+pub mod Faults
+pub mod Names
+pub mod Reading
+pub mod Settings
+pub mod Tables

@@ -1,0 +1,112 @@
+//! Reads the limits of settings.
+
+ghost use Rattle.std.specs.Prelude.{◌≡◌, ◌≤◌, IfOk};
+ghost use Rattle.toml.specs.View.{table_view};
+ghost use Rattle.ua_disco.specs.Bounds.{IsLimits};
+ghost use Rattle.ua_disco.specs.Faults.{Gives};
+ghost use Rattle.ua_disco.specs.Reading.{table_value, defaulted};
+ghost use Rattle.ua_disco.specs.Tables.{sizes, messages, limit_fields, limits_of, limits_key, default_limits};
+
+use crate::fault::SettingsFault;
+use crate::reading::{
+    FromValue, check_keys, is_wrong_kind, prefix_of, read_integer, read_optional,
+};
+use std::alloc::Global;
+use toml::{Table, Value};
+use ua_frame::Limits;
+
+#[tactic(auto, unfolding(crate::specs::Tables::sizes))]
+fn read_sizes(alloc: Global, table: &Table, prefix: &str) -> Result<(u32, u32), SettingsFault>
+    ensures gives { Gives (λ r. (r.0, r.1)) (sizes prefix.now (table_view table.now)) result }
+    ensures kept { IfOk result (λ r. (8192 ≤ r.0) × (r.0 ≤ 1048576) × (8192 ≤ r.1) × (r.1 ≤ 1048576)) }
+{
+    let range = (8192, 1_048_576);
+    let receive = read_integer(alloc, table, prefix, "receive", range, Some(65_535))?;
+    let send = read_integer(alloc, table, prefix, "send", range, Some(65_535))?;
+    Ok((receive, send))
+}
+
+#[tactic(auto, unfolding(crate::specs::Tables::messages))]
+fn read_messages(alloc: Global, table: &Table, prefix: &str) -> Result<(u32, u32), SettingsFault>
+    ensures gives { Gives (λ r. (r.0, r.1)) (messages prefix.now (table_view table.now)) result }
+    ensures kept { IfOk result (λ r. (1 ≤ r.0) × (r.0 ≤ 16777216) × (1 ≤ r.1) × (r.1 ≤ 65535)) }
+{
+    let bytes = (1, 16_777_216);
+    let max_message = read_integer(alloc, table, prefix, "max_message", bytes, Some(1_048_576))?;
+    let max_chunks = read_integer(alloc, table, prefix, "max_chunks", (1, 65_535), Some(64))?;
+    Ok((max_message, max_chunks))
+}
+
+#[tactic(auto, unfolding(crate::specs::Tables::limit_fields))]
+fn read_limit_fields(alloc: Global, table: &Table, prefix: &str) -> Result<Limits, SettingsFault>
+    ensures gives { Gives (λ l. l) (limit_fields prefix.now (table_view table.now)) result }
+    ensures kept { IfOk result IsLimits }
+{
+    let (receive, send) = read_sizes(alloc, table, prefix)?;
+    let (max_message, max_chunks) = read_messages(alloc, table, prefix)?;
+    Ok(Limits {
+        receive,
+        send,
+        max_message,
+        max_chunks,
+    })
+}
+
+#[tactic(auto, unfolding(crate::specs::Tables::limits_of))]
+fn read_limits(alloc: Global, table: &Table, prefix: &str) -> Result<Limits, SettingsFault>
+    ensures gives { Gives (λ l. l) (limits_of prefix.now (table_view table.now)) result }
+    ensures kept { IfOk result IsLimits }
+{
+    let known = ["receive", "send", "max_message", "max_chunks"];
+    check_keys(alloc, table, prefix, &known)?;
+    read_limit_fields(alloc, table, prefix)
+}
+
+#[tactic(auto, unfolding(crate::specs::Reading::table_value))]
+impl FromValue for Limits {
+    ghost rule = { table_value limits_of };
+
+    ghost keeps = { IsLimits };
+
+    fn from_value(alloc: Global, path: &str, value: &Value) -> Result<Limits, SettingsFault> {
+        let Some(table) = value.as_table() else {
+            return Err(is_wrong_kind(alloc, path));
+        };
+        let Ok(prefix) = prefix_of(alloc, path) else {
+            return Err(SettingsFault::NoMemory);
+        };
+        read_limits(alloc, table, prefix.as_str())
+    }
+}
+
+/// The limits at a key, those by default where it is absent.
+#[tactic(auto, unfolding(crate::specs::Reading::defaulted))]
+fn read_limits_or_default(
+    alloc: Global,
+    table: &Table,
+    prefix: &str,
+    key: &str,
+) -> Result<Limits, SettingsFault>
+    ensures gives { Gives (λ l. l) (defaulted (table_value limits_of) default_limits prefix.now key.now (table_view table.now)) result }
+    ensures kept { IfOk result IsLimits }
+{
+    match read_optional::<Limits>(alloc, table, prefix, key) {
+        Ok(Some(limits)) => Ok(limits),
+        Ok(None) => Ok(Limits {
+            receive: 65_535,
+            send: 65_535,
+            max_message: 1_048_576,
+            max_chunks: 64,
+        }),
+        Err(fault) => Err(fault),
+    }
+}
+
+/// The limits of a document.
+#[tactic(auto, unfolding(crate::specs::Tables::limits_key))]
+pub(crate) fn read_limits_key(alloc: Global, table: &Table) -> Result<Limits, SettingsFault>
+    ensures gives { Gives (λ l. l) (limits_key (table_view table.now)) result }
+    ensures kept { IfOk result IsLimits }
+{
+    read_limits_or_default(alloc, table, "", "limits")
+}

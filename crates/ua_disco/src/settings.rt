@@ -1,0 +1,71 @@
+//! The settings of a server.
+
+ghost use Rattle.std.specs.Prelude.{◌≡◌, option_copied, option_map};
+ghost use Rattle.ua_disco.specs.Bounds.{IsLimits, IsConfiguration};
+ghost use Rattle.ua_disco.specs.Settings.{first_url_of};
+
+use crate::application::Application;
+use crate::endpoint::Endpoint;
+use std::marker::Model;
+use ua_frame::Limits;
+use ua_value::UaString;
+
+/// What a server is set up to be: its limits, its application and its endpoints.
+#[derive(Drop)]
+pub struct Settings {
+    pub(crate) limits: Limits,
+    pub(crate) application: Application,
+    pub(crate) endpoints: Vec<Endpoint>,
+}
+
+impl Model for Settings {
+    ghost use Rattle.ua_disco.specs.Configuration.{Configuration};
+    ghost use Rattle.ua_disco.specs.Bounds.{IsConfiguration};
+
+    ghost Value = { Configuration };
+
+    ghost view = { λ a. record { limits = a.limits; application = a.application; endpoints = a.endpoints.items } };
+
+    ghost invariant = { λ a. IsConfiguration (record { limits = a.limits; application = a.application; endpoints = a.endpoints.items }) };
+}
+
+impl Settings {
+    /// The limits of the server.
+    pub fn limits(&self) -> Limits
+        ensures limits { result ≡ self.now.limits }
+        ensures within { IsLimits self.now.limits }
+    {
+        self.limits
+    }
+
+    pub(crate) fn application(&self) -> &Application
+        ensures application { result.now ≡ self.now.application }
+        ensures within { IsConfiguration self.now }
+    {
+        &self.application
+    }
+
+    pub(crate) fn endpoints(&self) -> &[Endpoint]
+        ensures endpoints { result.now ≡ self.now.endpoints }
+        ensures within { IsConfiguration self.now }
+    {
+        self.endpoints.as_slice()
+    }
+
+    /// The URI of its application.
+    pub fn first_uri(&self) -> &UaString
+        ensures { result.now ≡ self.now.application.uri }
+    {
+        &self.application.uri
+    }
+
+    /// The url of its first endpoint; `None` where it has none.
+    pub fn first_url(&self) -> Option<&UaString>
+        ensures { option_copied result ≡ first_url_of self.now.endpoints }
+    {
+        match self.endpoints.first() {
+            Some(endpoint) => Some(&endpoint.url),
+            None => None,
+        }
+    }
+}
