@@ -16,6 +16,8 @@ mod read_limits;
 mod reading;
 mod settings;
 mod tables;
+#[cfg(test)]
+mod tests;
 
 pub use answering::answer;
 pub use document::DEFAULT;

@@ -1,0 +1,329 @@
+//! Settings that are refused, and the text of their first fault.
+
+use super::with_more;
+use crate::{DEFAULT, Settings};
+use std::alloc::{AllocError, Global};
+use std::process::Abort;
+use std::test::Fail;
+
+/// The text of the first fault; empty where there is none.
+fn fault_text(alloc: Global, text: &[u8]) -> Result<String, AllocError> {
+    match Settings::from_toml(alloc, text) {
+        Ok(_) => Ok(String::new(alloc)),
+        Err(fault) => fault.to_string(alloc),
+    }
+}
+
+fn says(rt: &impl Abort, alloc: Global, text: &[u8], fault: &str) -> Result<(), AllocError> {
+    let found = fault_text(alloc, text)?;
+    assert_eq!(rt; found.as_str(), fault, "{text:?}");
+    Ok(())
+}
+
+/// What such texts behind the front are refused with.
+fn refused(
+    rt: &impl Abort,
+    alloc: Global,
+    front: &str,
+    rows: &[(&str, &str)],
+) -> Result<(), AllocError> {
+    for (more, fault) in rows {
+        let text = with_more(alloc, front, more)?;
+        let found = fault_text(alloc, text.as_bytes())?;
+        assert_eq!(rt; found.as_str(), *fault, "{text}");
+    }
+    Ok(())
+}
+
+const WHOLE: [(&str, &str); 24] = [
+    ("version =", "settings 1"),
+    ("version = 1\nversion = 1", "settings 1"),
+    ("version = 9223372036854775808", "settings 1"),
+    ("x = 1\nversion =", "settings 1"),
+    ("", "settings 2 version"),
+    ("application = 1", "settings 2 version"),
+    ("version = \"1\"", "settings 3 version"),
+    ("version = 1.0", "settings 3 version"),
+    ("version = 2", "settings 4 version"),
+    ("version = 0", "settings 4 version"),
+    ("version = -1", "settings 4 version"),
+    ("version = 4294967297", "settings 4 version"),
+    ("x = 1", "settings 5 x"),
+    ("version = 2\nb = 1\na = 1\nB = 1", "settings 5 B"),
+    ("version = 1", "settings 2 application"),
+    ("version = 1\napplication = 1", "settings 3 application"),
+    ("version = 1\napplication = []", "settings 3 application"),
+    (
+        "version = 1\nlimits = 1\n[application]",
+        "settings 2 application.uri",
+    ),
+    (
+        "version = 1\n[limits]\nx = 1\n[[endpoint]]",
+        "settings 2 application",
+    ),
+    (
+        "version = 1\nlimits = 1\n[application]\nuri = \"u\"\nnames = [{ text = \"n\" }]",
+        "settings 3 limits",
+    ),
+    (
+        "version = 1\nlimits = 1\nendpoint = 1\n[application]\nuri = \"u\"\nnames = [{ text = \"n\" }]",
+        "settings 3 endpoint",
+    ),
+    (
+        "version = 1\nendpoint = []\n[application]\nuri = \"u\"\nnames = [{ text = \"n\" }]",
+        "",
+    ),
+    (
+        "version = 1\nendpoint = [1]\n[application]\nuri = \"u\"\nnames = [{ text = \"n\" }]",
+        "settings 3 endpoint.0",
+    ),
+    (DEFAULT, ""),
+];
+
+#[test]
+fn texts_are_refused_at_their_first_fault(rt: HostRuntime) -> Result<(), Fail> {
+    let alloc = rt.alloc();
+    refused(&rt, alloc, "", &WHOLE)?;
+    says(&rt, alloc, b"version = 1 # \xFF", "settings 1")?;
+    let more = "[[endpoint]]\nurl = \"u\"\nmode = 4\n";
+    refused(&rt, alloc, DEFAULT, &[(more, "settings 4 endpoint.1.mode")])?;
+    Ok(())
+}
+
+/// An application that is still without names.
+const APPLICATION: &str = "version = 1\n[application]\nuri = \"u\"\n";
+
+const NAMES: [(&str, &str); 13] = [
+    ("", "settings 2 application.names"),
+    ("discovery_urls = 1", "settings 2 application.names"),
+    ("type = 4", "settings 4 application.type"),
+    (
+        "type = 4\nproduct_uri = 1",
+        "settings 3 application.product_uri",
+    ),
+    ("type = 4\nurl = 1", "settings 5 application.url"),
+    ("names = 1", "settings 3 application.names"),
+    ("names = []", "settings 4 application.names"),
+    ("names = [1]", "settings 3 application.names.0"),
+    ("names = [{}]", "settings 2 application.names.0.text"),
+    (
+        "names = [{ text = \"n\" }, { text = 1 }]",
+        "settings 3 application.names.1.text",
+    ),
+    (
+        "names = [{ text = 1, locale = 1 }]",
+        "settings 3 application.names.0.locale",
+    ),
+    (
+        "names = [{ locale = \"en\", lang = \"en\" }]",
+        "settings 5 application.names.0.lang",
+    ),
+    ("names = [{ text = \"n\" }]", ""),
+];
+
+/// The least settings, of which the application can go on.
+const LEAST: &str = "version = 1\n[application]\nuri = \"u\"\nnames = [{ text = \"n\" }]\n";
+
+const FIELDS: [(&str, &str); 14] = [
+    ("type = 3", ""),
+    ("type = 4", "settings 4 application.type"),
+    ("type = -1", "settings 4 application.type"),
+    ("type = 256", "settings 4 application.type"),
+    ("type = \"0\"", "settings 3 application.type"),
+    ("product_uri = 1", "settings 3 application.product_uri"),
+    (
+        "profile_uri = 1\ngateway_uri = 1",
+        "settings 3 application.gateway_uri",
+    ),
+    (
+        "discovery_urls = 1\nprofile_uri = 1",
+        "settings 3 application.profile_uri",
+    ),
+    (
+        "discovery_urls = \"u\"",
+        "settings 3 application.discovery_urls",
+    ),
+    (
+        "discovery_urls = [1]",
+        "settings 3 application.discovery_urls.0",
+    ),
+    (
+        "discovery_urls = [\"\", \"\", \"\", \"\", \"\", \"\", \"\", \"\", \"\", \"\", [], 1]",
+        "settings 3 application.discovery_urls.10",
+    ),
+    ("[endpoint]", "settings 3 endpoint"),
+    ("[[endpoint]]", "settings 2 endpoint.0.url"),
+    (
+        "[[endpoint]]\nmode = 4\n[[endpoint]]\nx = 1",
+        "settings 2 endpoint.0.url",
+    ),
+];
+
+#[test]
+fn applications_are_refused_at_their_first_fault(rt: HostRuntime) -> Result<(), Fail> {
+    let alloc = rt.alloc();
+    refused(&rt, alloc, APPLICATION, &NAMES)?;
+    refused(&rt, alloc, LEAST, &FIELDS)?;
+    Ok(())
+}
+
+const ENDPOINT: &str =
+    "version = 1\n[application]\nuri = \"u\"\nnames = [{ text = \"n\" }]\n[[endpoint]]\nurl = \"u\"\n";
+
+const ENDPOINTS: [(&str, &str); 22] = [
+    ("mode = 1", ""),
+    ("mode = 3\nlevel = 255", ""),
+    ("mode = 0", "settings 4 endpoint.0.mode"),
+    ("mode = 4", "settings 4 endpoint.0.mode"),
+    ("mode = \"1\"", "settings 3 endpoint.0.mode"),
+    ("level = 256", "settings 4 endpoint.0.level"),
+    ("level = -1", "settings 4 endpoint.0.level"),
+    ("level = 256\nmode = 4", "settings 4 endpoint.0.mode"),
+    ("policy = 1\nmode = 4", "settings 4 endpoint.0.mode"),
+    ("policy = 1", "settings 3 endpoint.0.policy"),
+    ("transport = 1\npolicy = 1", "settings 3 endpoint.0.policy"),
+    ("certificate = 1", "settings 3 endpoint.0.certificate"),
+    ("certificate = \"0\"", "settings 4 endpoint.0.certificate"),
+    ("certificate = \"0g\"", "settings 4 endpoint.0.certificate"),
+    ("certificate = \"\"", ""),
+    (
+        "transport = 1\ncertificate = \"0x00\"",
+        "settings 4 endpoint.0.certificate",
+    ),
+    (
+        "level = 256\ntransport = 1",
+        "settings 3 endpoint.0.transport",
+    ),
+    ("tokens = 1\nlevel = 256", "settings 4 endpoint.0.level"),
+    ("mod = 4", "settings 5 endpoint.0.mod"),
+    ("tokens = 1", "settings 3 endpoint.0.tokens"),
+    ("tokens = []", ""),
+    ("tokens = [1]", "settings 3 endpoint.0.tokens.0"),
+];
+
+const TOKENS: [(&str, &str); 8] = [
+    ("tokens = [{}]", "settings 2 endpoint.0.tokens.0.id"),
+    (
+        "tokens = [{ id = \"i\" }, { id = \"i\", type = 4 }]",
+        "settings 4 endpoint.0.tokens.1.type",
+    ),
+    (
+        "tokens = [{ id = \"i\", policy = 1, issuer_url = 1, issued_type = 1 }]",
+        "settings 3 endpoint.0.tokens.0.issued_type",
+    ),
+    (
+        "tokens = [{ id = \"i\", policy = 1, issuer_url = 1 }]",
+        "settings 3 endpoint.0.tokens.0.issuer_url",
+    ),
+    (
+        "tokens = [{ id = \"i\", policy = 1 }]",
+        "settings 3 endpoint.0.tokens.0.policy",
+    ),
+    (
+        "tokens = [{ kind = 1 }]",
+        "settings 5 endpoint.0.tokens.0.kind",
+    ),
+    ("tokens = [{ id = 1 }]", "settings 3 endpoint.0.tokens.0.id"),
+    ("tokens = [{ id = \"\", type = 3 }]", ""),
+];
+
+const LIMITS: [(&str, &str); 17] = [
+    ("", ""),
+    ("receive = 8192\nsend = 8192", ""),
+    ("receive = 1048576\nsend = 1048576", ""),
+    ("receive = 8191", "settings 4 limits.receive"),
+    ("receive = 1048577", "settings 4 limits.receive"),
+    ("receive = 65535.0", "settings 3 limits.receive"),
+    ("send = 8191", "settings 4 limits.send"),
+    ("send = 1048577", "settings 4 limits.send"),
+    ("send = 1\nreceive = 1", "settings 4 limits.receive"),
+    ("max_message = 1\nmax_chunks = 1", ""),
+    ("max_message = 0", "settings 4 limits.max_message"),
+    ("max_message = 16777217", "settings 4 limits.max_message"),
+    ("max_chunks = 0", "settings 4 limits.max_chunks"),
+    ("max_chunks = 65536", "settings 4 limits.max_chunks"),
+    (
+        "max_chunks = 0\nmax_message = 0",
+        "settings 4 limits.max_message",
+    ),
+    ("max_message = 0\nsend = 0", "settings 4 limits.send"),
+    ("receive = 0\nchunks = 1", "settings 5 limits.chunks"),
+];
+
+#[test]
+fn endpoints_and_limits_are_refused_at_their_first_fault(rt: HostRuntime) -> Result<(), Fail> {
+    let alloc = rt.alloc();
+    refused(&rt, alloc, ENDPOINT, &ENDPOINTS)?;
+    refused(&rt, alloc, ENDPOINT, &TOKENS)?;
+    let limits = with_more(alloc, LEAST, "[limits]\n")?;
+    refused(&rt, alloc, &limits, &LIMITS)?;
+    Ok(())
+}
+
+/// A text in which a part stands so often between two others.
+fn repeated(
+    alloc: Global,
+    front: &str,
+    part: &str,
+    times: usize,
+    back: &str,
+) -> Result<String, AllocError> {
+    let mut text = String::from_str(alloc, front)?;
+    for _ in 0..times {
+        text.push_str(part)?;
+    }
+    text.push_str(back)?;
+    Ok(text)
+}
+
+/// What stands before a text, a certificate and an array, and behind it.
+const NAMED: &str = "version = 1\n[application]\nnames = [{ text = \"n\" }]\nuri = \"";
+
+const CERTIFIED: &str =
+    "version = 1\n[application]\nuri = \"u\"\nnames = [{ text = \"n\" }]\n[[endpoint]]\nurl = \"u\"\ncertificate = \"";
+
+const LISTED: &str =
+    "version = 1\n[application]\nuri = \"u\"\nnames = [{ text = \"n\" }]\ndiscovery_urls = [";
+
+/// The front, the part, how often it stands there, the back, and the fault. Texts are counted in bytes, and an array before its items.
+const LONG: [(&str, &str, usize, &str, &str); 8] = [
+    (NAMED, "u", 4095, "\"", ""),
+    (NAMED, "u", 4096, "\"", "settings 4 application.uri"),
+    (NAMED, "\u{E9}", 2047, "\"", ""),
+    (NAMED, "\u{E9}", 2048, "\"", "settings 4 application.uri"),
+    (CERTIFIED, "aB", 65536, "\"", ""),
+    (
+        CERTIFIED,
+        "aB",
+        65537,
+        "\"",
+        "settings 4 endpoint.0.certificate",
+    ),
+    (LISTED, "'',", 65535, "]", ""),
+    (
+        LISTED,
+        "1,",
+        65536,
+        "]",
+        "settings 4 application.discovery_urls",
+    ),
+];
+
+fn bounded(
+    rt: &impl Abort,
+    alloc: Global,
+    rows: &[(&str, &str, usize, &str, &str)],
+) -> Result<(), AllocError> {
+    for (front, part, times, back, fault) in rows {
+        let text = repeated(alloc, front, part, *times, back)?;
+        let found = fault_text(alloc, text.as_bytes())?;
+        assert_eq!(rt; found.as_str(), *fault, "{part} {times}");
+    }
+    Ok(())
+}
+
+#[test]
+fn long_values_are_refused(rt: HostRuntime) -> Result<(), Fail> {
+    bounded(&rt, rt.alloc(), &LONG)?;
+    Ok(())
+}
