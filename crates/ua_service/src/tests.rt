@@ -8,11 +8,11 @@ mod memory;
 mod requests;
 mod vectors;
 
-use crate::Body;
+use crate::{Body, Request};
 use std::alloc::{AllocError, Global};
 use std::process::Abort;
 use std::test::Fail;
-use ua_value::{Array, ReadFault, UaBytes, UaString, Wire};
+use ua_value::{Array, NoMemory, ReadFault, UaBytes, UaString, Wire};
 
 fn joined(alloc: Global, front: &[u8], behind: &[u8]) -> Result<Vec<u8>, AllocError> {
     let mut bytes = front.to_vec(alloc)?;
@@ -104,6 +104,17 @@ fn is_whole<B: Body>(rt: &impl Abort, alloc: Global, body: &[u8]) -> Result<B, F
     }
     refuses_body::<B>(rt, alloc, &joined(alloc, body, &[0])?);
     Ok(message)
+}
+
+/// A message that can be copied.
+trait Copied: Body {
+    fn copied(&self) -> Result<Self, NoMemory>;
+}
+
+impl Copied for Request {
+    fn copied(&self) -> Result<Request, NoMemory> {
+        self.copy()
+    }
 }
 
 fn is_text(value: &UaString, text: &str) -> bool {

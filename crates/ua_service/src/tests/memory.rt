@@ -1,17 +1,18 @@
 //! Each call that grows gives its full answer, or says that memory ran out and leaves what stood before.
 
-use super::cut;
+use super::requests::Header;
 use super::vectors::{
     close_request, endpoints_request, endpoints_response, fault_response, find_request,
     find_response, open_request, open_response, other_request, request_header,
 };
+use super::{Copied, cut};
 use crate::{
     Body, CloseRequest, EndpointDescription, OpenRequest, OpenResponse, Request, RequestHeader,
     Response, read_request,
 };
 use std::alloc::Global;
 use std::process::Abort;
-use ua_value::{Identifier, NodeId, ReadFault, Wire};
+use ua_value::{ReadFault, Wire};
 
 /// Reading the body, and writing the message that it is of.
 fn full_or_no_memory<B: Body>(rt: &impl Abort, alloc: Global, body: &[u8]) {
@@ -58,9 +59,17 @@ fn responses_or_no_memory(rt: HostRuntime) {
     }
 }
 
-fn copied_or_no_memory(rt: &impl Abort, alloc: Global, request: &Request, body: &[u8]) {
-    if let Ok(copy) = request.copy() {
-        written_or_no_memory(rt, alloc, &copy, body);
+/// Writing a copy of what was read.
+fn copied_or_no_memory<B: Copied>(
+    rt: &impl Abort,
+    alloc: Global,
+    read: Result<B, ReadFault>,
+    body: &[u8],
+) {
+    if let Ok(message) = read {
+        if let Ok(copy) = message.copied() {
+            written_or_no_memory(rt, alloc, &copy, body);
+        }
     }
 }
 
@@ -69,9 +78,7 @@ fn copies_of_requests_or_no_memory(rt: HostRuntime) {
     let alloc = rt.alloc();
     for body in [find_request(), endpoints_request(), other_request()] {
         assert!(rt; body.len() <= 1000);
-        if let Ok(request) = read_request(alloc, body) {
-            copied_or_no_memory(&rt, alloc, &request, body);
-        }
+        copied_or_no_memory(&rt, alloc, read_request(alloc, body), body);
     }
 }
 
@@ -103,21 +110,19 @@ fn copies_of_endpoints_or_no_memory(rt: HostRuntime) {
 }
 
 /// Making a request of another service takes no memory.
-#[test]
-fn other_requests_or_no_memory(rt: HostRuntime) {
-    let alloc = rt.alloc();
-    let bytes = request_header();
+fn made_or_no_memory<H: Header>(rt: &impl Abort, alloc: Global, bytes: &[u8], body: &[u8]) {
     assert!(rt; bytes.len() <= 1000);
-    let Ok((header, _)) = RequestHeader::read(alloc, bytes) else {
+    let Ok((header, _)) = H::read(alloc, bytes) else {
         return;
     };
     let Ok(rest) = b"\xAA\xBB".to_vec(alloc) else {
         return;
     };
-    let type_id = NodeId {
-        namespace: 0,
-        identifier: Identifier::Numeric(461),
-    };
-    let request = Request::other(type_id, header, rest).expect(&rt, "another service");
-    written_or_no_memory(&rt, alloc, &request, other_request());
+    let request = header.other((0, 461), rest).expect(rt, "another service");
+    written_or_no_memory(rt, alloc, &request, body);
+}
+
+#[test]
+fn other_requests_or_no_memory(rt: HostRuntime) {
+    made_or_no_memory::<RequestHeader>(&rt, rt.alloc(), request_header(), other_request());
 }
