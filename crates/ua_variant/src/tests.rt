@@ -57,6 +57,42 @@ fn writes<T: Wire>(rt: &impl Abort, alloc: Global, value: &T, canon: &[u8]) -> R
     Ok(())
 }
 
+/// What a value is to show.
+trait Shown<T> {
+    fn is_shown(&self, value: &T) -> bool;
+}
+
+fn shows<T: Drop, W: Shown<T>>(rt: &impl Abort, value: T, want: &W) {
+    assert!(rt; want.is_shown(&value));
+}
+
+/// The value that the bytes spell, and that is written as they are, shows it.
+fn spells<T: Wire, W: Shown<T>>(
+    rt: &impl Abort,
+    alloc: Global,
+    bytes: &[u8],
+    want: &W,
+) -> Result<(), Fail> {
+    let value = reads::<T>(rt, alloc, bytes, bytes.len(), bytes)?;
+    assert!(rt; want.is_shown(&value), "{bytes:?}");
+    Ok(())
+}
+
+/// A depth.
+struct Depth(u8);
+
+impl Shown<DataValue> for Depth {
+    fn is_shown(&self, value: &DataValue) -> bool {
+        value.depth() == self.0
+    }
+}
+
+impl Shown<DiagnosticInfo> for Depth {
+    fn is_shown(&self, value: &DiagnosticInfo) -> bool {
+        value.depth() == self.0
+    }
+}
+
 /// What was made is written as the bytes, and so is a copy.
 fn made_as<T: Wire>(
     rt: &impl Abort,

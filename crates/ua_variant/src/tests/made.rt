@@ -4,7 +4,9 @@ ghost use Rattle.std.specs.Prelude.{◌≤◌, length, IfOk, IfSome};
 ghost use Rattle.ua_value.specs.Text.{longest};
 
 use super::rows::{DATA, DIAGNOSTICS};
-use super::{around, array_of_100, array_of_one, element_of, list_of_two, made_as, not_made};
+use super::{
+    Shown, around, array_of_100, array_of_one, element_of, list_of_two, made_as, not_made, shows,
+};
 use crate::{DataValue, DiagnosticInfo, Element, Kind, Variant, VariantFault};
 use std::alloc::Global;
 use std::process::Abort;
@@ -16,13 +18,26 @@ const ARRAY: [u8; 25] = [
     0xc6, 2, 0, 0, 0, 1, 0, 0, 0, 2, 0, 0, 0, 2, 0, 0, 0, 2, 0, 0, 0, 1, 0, 0, 0,
 ];
 
-fn holds_nothing(rt: &impl Abort, null: &Variant) {
-    assert!(rt; null.is_null() && null.kind().is_none() && null.value().is_none());
-    assert!(rt; null.elements().is_none() && null.dimensions().is_none() && null.depth() == 1);
+struct Nothing;
+
+impl Shown<Variant> for Nothing {
+    fn is_shown(&self, null: &Variant) -> bool {
+        null.is_null()
+            && null.kind().is_none()
+            && null.value().is_none()
+            && null.elements().is_none()
+            && null.dimensions().is_none()
+            && null.depth() == 1
+    }
 }
 
-fn is_flat(rt: &impl Abort, element: &Element, len: u64) {
-    assert!(rt; element.len() == len && element.depth() == 0);
+/// The length of an element with nothing nested in it.
+struct Flat(u64);
+
+impl Shown<Element> for Flat {
+    fn is_shown(&self, element: &Element) -> bool {
+        element.len() == self.0 && element.depth() == 0
+    }
 }
 
 fn array_of_two(rt: &impl Abort, alloc: Global) -> Result<Variant, VariantFault> {
@@ -34,8 +49,8 @@ fn array_of_two(rt: &impl Abort, alloc: Global) -> Result<Variant, VariantFault>
 #[test]
 fn variants_hold_what_they_are_given(rt: HostRuntime) -> Result<(), Fail> {
     let alloc = rt.alloc();
-    holds_nothing(&rt, &Variant::null());
-    is_flat(&rt, &Element::Int32(1), 4);
+    shows(&rt, Variant::null(), &Nothing);
+    shows(&rt, Element::Int32(1), &Flat(4));
     made_as(&rt, alloc, Ok(Variant::null()), &[0])?;
     made_as(
         &rt,

@@ -1,7 +1,7 @@
 //! Each call that grows gives its full answer, or says that memory ran out and leaves what stood before.
 
 use super::rows::{DATA, DIAGNOSTICS};
-use super::{around, data_of};
+use super::{Depth, Shown, around, data_of, shows};
 use crate::{DataValue, DiagnosticInfo, ExtensionObject, Variant, VariantFault};
 use std::alloc::Global;
 use std::process::Abort;
@@ -56,15 +56,21 @@ fn values_or_no_memory(rt: HostRuntime) {
     );
 }
 
+fn shown_or_no_memory<T: Drop, W: Shown<T>>(
+    rt: &impl Abort,
+    made: Result<T, VariantFault>,
+    want: &W,
+) {
+    match made {
+        Ok(value) => shows(rt, value, want),
+        Err(fault) => assert_eq!(rt; fault, VariantFault::NoMemory),
+    }
+}
+
 #[test]
 fn constructors_or_no_memory(rt: HostRuntime) {
     let alloc = rt.alloc();
-    match data_of(alloc, Variant::null()) {
-        Ok(data) => assert_eq!(rt; data.depth(), 2),
-        Err(fault) => assert_eq!(rt; fault, VariantFault::NoMemory),
-    }
-    match around(alloc, around(alloc, None).ok()) {
-        Ok(value) => assert_eq!(rt; value.depth(), 2),
-        Err(fault) => assert_eq!(rt; fault, VariantFault::NoMemory),
-    }
+    shown_or_no_memory(&rt, data_of(alloc, Variant::null()), &Depth(2));
+    let inner = around(alloc, None).ok();
+    shown_or_no_memory(&rt, around(alloc, inner), &Depth(2));
 }

@@ -1,6 +1,6 @@
 //! Bytes and what they spell.
 
-use super::{reads, refuses};
+use super::{Depth, Shown, reads, refuses, spells};
 use crate::{DataValue, DiagnosticInfo, ExtensionObject, Kind, Variant};
 use std::alloc::Global;
 use std::process::Abort;
@@ -65,13 +65,20 @@ const SOME_DIAGNOSTICS: [(&[u8], &[u8]); 5] = [
     (&[0x20, 0, 0, 0, 0], &[0x20, 0, 0, 0, 0]),
 ];
 
-fn has_each_part(rt: &impl Abort, value: &DiagnosticInfo) {
-    let parts = value.parts();
-    assert!(rt; parts.symbolic_id == Some(1) && parts.namespace_uri == Some(2));
-    assert!(rt; parts.locale == Some(3) && parts.localized_text == Some(4));
-    assert!(rt; parts.additional_info.get() == Some("hi"));
-    assert!(rt; parts.inner_status == Some(StatusCode(0x800b_0000)));
-    assert!(rt; value.depth() == 2 && value.inner().is_some());
+struct EachPart;
+
+impl Shown<DiagnosticInfo> for EachPart {
+    fn is_shown(&self, value: &DiagnosticInfo) -> bool {
+        let parts = value.parts();
+        parts.symbolic_id == Some(1)
+            && parts.namespace_uri == Some(2)
+            && parts.locale == Some(3)
+            && parts.localized_text == Some(4)
+            && parts.additional_info.get() == Some("hi")
+            && parts.inner_status == Some(StatusCode(0x800b_0000))
+            && value.depth() == 2
+            && value.inner().is_some()
+    }
 }
 
 #[test]
@@ -79,9 +86,7 @@ fn diagnostics_keep_what_is_flagged(rt: HostRuntime) -> Result<(), Fail> {
     let alloc = rt.alloc();
     refused_rows::<DiagnosticInfo>(&rt, alloc, &[&[0x80], &[0x40, 0x80]]);
     read_rows::<DiagnosticInfo>(&rt, alloc, &SOME_DIAGNOSTICS)?;
-    let value = reads::<DiagnosticInfo>(&rt, alloc, &DIAGNOSTICS, 28, &DIAGNOSTICS)?;
-    has_each_part(&rt, &value);
-    Ok(())
+    spells::<DiagnosticInfo, EachPart>(&rt, alloc, &DIAGNOSTICS, &EachPart)
 }
 
 /// A single value of each kind, as it is written.
@@ -115,23 +120,24 @@ const SINGLES: [(Kind, &[u8]); 24] = [
     (Kind::DiagnosticInfo, &[0x19, 0x40, 0]),
 ];
 
-fn is_one(rt: &impl Abort, value: &Variant, kind: Kind) {
-    assert!(rt; !value.is_array() && !value.is_null());
-    assert_eq!(rt; value.kind(), Some(kind));
-    assert!(rt; value.value().is_some_and(|one| one.kind() == kind));
-}
+#[derive(Drop)]
+struct Single(Kind);
 
-fn read_singles(rt: &impl Abort, alloc: Global, rows: &[(Kind, &[u8])]) -> Result<(), Fail> {
-    for (kind, bytes) in rows {
-        let value = reads::<Variant>(rt, alloc, bytes, bytes.len(), bytes)?;
-        is_one(rt, &value, *kind);
+impl Shown<Variant> for Single {
+    fn is_shown(&self, value: &Variant) -> bool {
+        !value.is_array()
+            && !value.is_null()
+            && value.kind() == Some(self.0)
+            && value.value().is_some_and(|one| one.kind() == self.0)
     }
-    Ok(())
 }
 
 #[test]
 fn variants_have_a_value_of_each_kind(rt: HostRuntime) -> Result<(), Fail> {
-    read_singles(&rt, rt.alloc(), &SINGLES)
+    for (kind, bytes) in SINGLES {
+        spells::<Variant, Single>(&rt, rt.alloc(), bytes, &Single(kind))?;
+    }
+    Ok(())
 }
 
 /// What else is read, and what is written for it: byte strings under another type, and any true.
@@ -227,10 +233,18 @@ const NO_ARRAYS: [&[u8]; 9] = [
     &[0x83, 0xfe, 0xff, 0xff, 0xff, 1, 1, 1],
 ];
 
-fn is_array(rt: &impl Abort, value: &Variant, count: Option<usize>, lengths: Option<&[i32]>) {
-    assert!(rt; value.is_array());
-    assert_eq!(rt; value.elements().map(|elements| elements.len()), count);
-    assert_eq!(rt; value.dimensions(), lengths);
+#[derive(Drop)]
+struct Shape<'a> {
+    count: Option<usize>,
+    lengths: Option<&'a [i32]>,
+}
+
+impl Shown<Variant> for Shape<'_> {
+    fn is_shown(&self, value: &Variant) -> bool {
+        value.is_array()
+            && value.elements().map(|elements| elements.len()) == self.count
+            && value.dimensions() == self.lengths
+    }
 }
 
 #[test]
@@ -238,8 +252,7 @@ fn arrays_have_dimensions_that_fit(rt: HostRuntime) -> Result<(), Fail> {
     let alloc = rt.alloc();
     refused_rows::<Variant>(&rt, alloc, &NO_ARRAYS);
     for (bytes, count, lengths) in ARRAYS {
-        let value = reads::<Variant>(&rt, alloc, bytes, bytes.len(), bytes)?;
-        is_array(&rt, &value, count, lengths);
+        spells::<Variant, Shape>(&rt, alloc, bytes, &Shape { count, lengths })?;
     }
     Ok(())
 }
@@ -263,17 +276,18 @@ const SOME_DATA: [(&[u8], &[u8]); 6] = [
     (&[0x20, 0x0f, 0x27], &[0x20, 0x0f, 0x27]),
 ];
 
-fn has_each_part_of_data(rt: &impl Abort, data: &DataValue) {
-    assert!(rt; data.depth() == 2);
-    assert!(rt;
-        data.value()
-            .is_some_and(|value| value.kind() == Some(Kind::Int32))
-    );
-    assert!(rt; data.status() == Some(StatusCode(0x800b_0000)));
-    assert!(rt; data.source_timestamp() == Some(DateTime(2)));
-    assert!(rt; data.source_picoseconds() == Some(3));
-    assert!(rt; data.server_timestamp() == Some(DateTime(4)));
-    assert!(rt; data.server_picoseconds() == Some(5));
+impl Shown<DataValue> for EachPart {
+    fn is_shown(&self, data: &DataValue) -> bool {
+        data.depth() == 2
+            && data
+                .value()
+                .is_some_and(|value| value.kind() == Some(Kind::Int32))
+            && data.status() == Some(StatusCode(0x800b_0000))
+            && data.source_timestamp() == Some(DateTime(2))
+            && data.source_picoseconds() == Some(3)
+            && data.server_timestamp() == Some(DateTime(4))
+            && data.server_picoseconds() == Some(5)
+    }
 }
 
 #[test]
@@ -282,8 +296,6 @@ fn data_values_keep_what_is_flagged(rt: HostRuntime) -> Result<(), Fail> {
     refused_rows::<DataValue>(&rt, alloc, &[&[0x40], &[0x80], &[0x01, 0x18, 0]]);
     read_rows::<DataValue>(&rt, alloc, &SOME_DATA)?;
     let nested: &[u8] = &[0x01, 0x97, 1, 0, 0, 0, 0x01, 0];
-    let depth = reads::<DataValue>(&rt, alloc, nested, 8, nested)?.depth();
-    assert!(rt; depth == 4);
-    has_each_part_of_data(&rt, &reads::<DataValue>(&rt, alloc, &DATA, 30, &DATA)?);
-    Ok(())
+    spells::<DataValue, Depth>(&rt, alloc, nested, &Depth(4))?;
+    spells::<DataValue, EachPart>(&rt, alloc, &DATA, &EachPart)
 }
