@@ -39,10 +39,10 @@ same_id : (site : Site) (past : Past) (id x : ℕ) (parts : List Frame) → may_
 same_id site past id x [] h k = (tt, refl)
 same_id site past id x (p ∷ ps) h k = let e : id ≡ x = eqb-true _ _ h in (subst (λ i. AreParts site past i (p ∷ ps)) e k, ap (λ i. half_of i (p ∷ ps)) e)
 
-fit_more : (site : Site) (id : ℕ) (parts : List Frame) (f : Frame) → parts_of (half_of id parts) + 1 ≤ site.limits.max_chunks → length (body_of (half_of id parts)) + length (carried f).body ≤ site.limits.max_message → FitTheLimits site (parts ++ f ∷ [])
+fit_more : (site : Site) (id : ℕ) (parts : List Frame) (f : Frame) → parts_of (half_of id parts) + 1 ≤ site.settings.limits.max_chunks → length (body_of (half_of id parts)) + length (carried f).body ≤ site.settings.limits.max_message → FitTheLimits site (parts ++ f ∷ [])
 fit_more site id parts f h k = (
   omega (arith, h, half_counts id parts, length-append parts (f ∷ [])),
-  subst (λ n. n ≤ site.limits.max_message) (sym bodies) k,
+  subst (λ n. n ≤ site.settings.limits.max_message) (sym bodies) k,
 )
   where
     bodies : length (joined_body (parts ++ f ∷ [])) ≡ length (body_of (half_of id parts)) + length (carried f).body
@@ -132,7 +132,7 @@ id_at site past parts id x at h =
 
 limits_at : (site : Site) (past : Past) (parts : List Frame) (x flag : ℕ) (f : Frame) → Ready (known site (newest_first parts past)) (half_of x parts) → not (flag == 65) ≡ true → Part site (known site (newest_first parts past)) flag f → FitTheLimits site (parts ++ f ∷ [])
 limits_at site past parts x flag f r n p =
-    fit_more site x parts f (subst (λ o. parts_of o + 1 ≤ site.limits.max_chunks) r.half (p.count n)) (subst (λ o. length (body_of o) + length (carried f).body ≤ site.limits.max_message) r.half (p.bytes n))
+    fit_more site x parts f (subst (λ o. parts_of o + 1 ≤ site.settings.limits.max_chunks) r.half (p.count n)) (subst (λ o. length (body_of o) + length (carried f).body ≤ site.settings.limits.max_message) r.half (p.bytes n))
 
 build_part : (site : Site) → (fs : List Frame) → Build site fs → (past : Past) (parts : List Frame) (id : ℕ) (f : Frame) → At site past parts id → kind_of f.bytes ≡ Some kinds.Message → flag_of f.bytes ≡ 67 →
     Part site (known site (newest_first parts past)) 67 f → AreFine site (f ∷ newest_first parts past) fs → Grown site past (parts ++ f ∷ fs)

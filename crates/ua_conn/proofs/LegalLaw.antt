@@ -92,13 +92,13 @@ opening_from site h o i n =
     }
 
 -- both sizes are at least 8192, so is the lesser
-pub room_second : (site : Site) (h : Frame) → 8192 ≤ site.limits.receive → IsHello site h → 8192 ≤ greatest_frame (known site (h ∷ [])).limits
+pub room_second : (site : Site) (h : Frame) → 8192 ≤ site.settings.limits.receive → IsHello site h → 8192 ≤ greatest_frame (known site (h ∷ [])).limits
 unfolding known
 room_second site h v i =
     let e : cond (is_hello (kind_of h.bytes)) (limits_of site h) None ≡ Some (agreed site i.hello) = ap (λ κ. cond (is_hello κ) (limits_of site h) None) i.kind ∙ ap (option_map (agreed site)) i.layout in
     subst (λ l. 8192 ≤ greatest_frame l) (sym e) (let b = i.send in omega (arith, v, b))
 
-opened : (site : Site) (h o : Frame) → 8192 ≤ site.limits.receive → IsHello site h → IsOpening site (h ∷ []) 0 0 o → Ready (known site (o ∷ h ∷ [])) None
+opened : (site : Site) (h o : Frame) → 8192 ≤ site.settings.limits.receive → IsHello site h → IsOpening site (h ∷ []) 0 0 o → Ready (known site (o ∷ h ∷ [])) None
 opened site h o v i p = let g = at_second site h i.hello i.kind i.layout in opn_ready site (h ∷ []) o p.kind g.limits (room_second site h v i) g.half
 
 -- what is faultless begins a legal list
@@ -135,7 +135,7 @@ allowed_by site past h kind r e = allowed_ready (known site past) h kind r ∙ e
 
 -- the sizes of a part, out of those of the whole
 sizes : (site : Site) (k : Known) (id : ℕ) (done : List Frame) (p : Frame) (ps : List Frame) → k.half ≡ half_of id done → FitTheLimits site (done ++ p ∷ ps) →
-    (parts_of k.half + 1 ≤ site.limits.max_chunks) × (length (body_of k.half) + length (carried p).body ≤ site.limits.max_message)
+    (parts_of k.half + 1 ≤ site.settings.limits.max_chunks) × (length (body_of k.half) + length (carried p).body ≤ site.settings.limits.max_message)
 sizes site k id done p ps e h =
     let bodies : length (joined_body (done ++ p ∷ ps)) ≡ length (body_of k.half) + length ((carried p).body ++ joined_body ps) =
     ap length (flat_map-append (λ p. (carried p).body) done (p ∷ ps)) ∙ length-append (joined_body done) (joined_body (p ∷ ps)) ∙ ap (λ b. length b + length (joined_body (p ∷ ps))) (sym (ap body_of e ∙ half_bodies id done)) in
@@ -300,7 +300,7 @@ first_open_at site h f i o =
     }
 
 -- a legal list has no fault
-pub legal_fine : (site : Site) → 8192 ≤ site.limits.receive → (fs : List Frame) → IsLegal site fs → AreFine site [] fs
+pub legal_fine : (site : Site) → 8192 ≤ site.settings.limits.receive → (fs : List Frame) → IsLegal site fs → AreFine site [] fs
 legal_fine site v fs l =
     subst (AreFine site []) (sym l.frames) (
       fine_by site (known site []) l.hello (Some kinds.Hello) 70 l.hello_is.size.whole l.hello_is.kind l.hello_is.flag (hello_rows_no site (known site []) l.hello (hello_at site l.hello l.hello_is)),

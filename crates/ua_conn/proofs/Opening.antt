@@ -24,7 +24,7 @@ use Rattle.ua_service.specs.ChannelMessages.{open_of}
 use Rattle.ua_channel.specs.Token.{newest_id, two_newest}
 use Rattle.ua_channel.specs.Admission.{follows_last, is_text}
 use Rattle.ua_conn.specs.Site.{Site}
-use Rattle.ua_conn.specs.Answers.{no_object}
+use Rattle.ua_disco.specs.Answers.{no_object}
 use Rattle.ua_conn.specs.Past.{known, has_number, is_open, number_of, hello_in, open_in, tokens_by}
 use Rattle.ua_conn.specs.Legal.{IsWhole, HasRoom, IsHello, IsOpening, Opens}
 use Rattle.ua_conn.proofs.Vectors.{hello, open_first, open_body}

@@ -124,8 +124,8 @@ pub record Part (site : Site) (k : Known) (flag : ℕ) (f : Frame) : Type 0 wher
   pub admits : Admits site k f
   pub opened : is_allowed k (Some kinds.Message) ≡ true
   pub id : may_have_id k.half (carried f).request_id ≡ true
-  pub count : not (flag == 65) ≡ true → parts_of k.half + 1 ≤ site.limits.max_chunks
-  pub bytes : not (flag == 65) ≡ true → length (body_of k.half) + length (carried f).body ≤ site.limits.max_message
+  pub count : not (flag == 65) ≡ true → parts_of k.half + 1 ≤ site.settings.limits.max_chunks
+  pub bytes : not (flag == 65) ≡ true → length (body_of k.half) + length (carried f).body ≤ site.settings.limits.max_message
   pub abort : (flag == 65) ≡ true → is_some (abort_of (carried f).body) ≡ true
   pub request : (flag == 70) ≡ true → is_some (request_of (body_of k.half ++ (carried f).body)) ≡ true
 

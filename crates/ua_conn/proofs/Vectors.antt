@@ -1,9 +1,12 @@
 -- The frames of the worked rows.
-use Rattle.std.proofs.Common.{ℕ, ◌+◌, List, [], ◌∷◌, ◌++◌, length}
-use Rattle.std.specs.Prelude.{codes}
+use Rattle.std.proofs.Common.{ℕ, ◌+◌, List, [], ◌∷◌, ◌++◌, Some, None, length}
+use Rattle.std.specs.Prelude.{pos, codes}
 use Rattle.std.specs.Int.{w32, w64, to_le_bytes}
 use Rattle.ua_frame.specs.Streams.{Piece}
 use Rattle.ua_frame.specs.declared.limits.Limits.{Limits}
+use Rattle.ua_disco.specs.declared.application.Application.{Application}
+use Rattle.ua_disco.specs.declared.endpoint.Endpoint.{Endpoint}
+use Rattle.ua_disco.specs.Configuration.{Configuration}
 use Rattle.ua_conn.specs.Site.{Site}
 
 -- ---- numbers and parts
@@ -19,6 +22,9 @@ url = 24 ∷ 0 ∷ 0 ∷ 0 ∷ codes "opc.tcp://localhost:4840"
 
 abbrev pub policy_uri : List ℕ
 policy_uri = codes "http://opcfoundation.org/UA/SecurityPolicy#None"
+
+abbrev pub binary_profile : List ℕ
+binary_profile = codes "http://opcfoundation.org/UA-Profile/Transport/uatcp-uasc-uabinary"
 
 -- a policy URI of up to 255 bytes
 abbrev pub policy : List ℕ → List ℕ
@@ -64,6 +70,9 @@ find_body handle = (1 ∷ 0 ∷ 0xA6 ∷ 1 ∷ []) ++ header_asked handle ++ url
 abbrev pub find_first : List ℕ
 find_first = chunk_with (codes "MSGF") 1 1 2 2 (find_body 2)
 
+abbrev pub endpoints_first : List ℕ
+endpoints_first = chunk_with (codes "MSGF") 1 1 2 2 ((1 ∷ 0 ∷ 0xAC ∷ 1 ∷ []) ++ header_asked 2 ++ url ++ null ++ null)
+
 abbrev pub other_body : ℕ → List ℕ
 other_body handle = (1 ∷ 0 ∷ 0xCD ∷ 1 ∷ []) ++ header_asked handle ++ (0xAA ∷ 0xBB ∷ [])
 
@@ -92,6 +101,23 @@ fault_body handle now = (1 ∷ 0 ∷ 0x8D ∷ 1 ∷ []) ++ header_answered now h
 abbrev pub fault_first : List ℕ
 fault_first = chunk_with (codes "MSGF") 1 1 2 2 (fault_body 2 0)
 
+-- URI, product, name, a server, no gateway, no profile, one url
+abbrev pub application_spelled : List ℕ
+application_spelled = n4 5 ++ codes "urn:a" ++ n4 5 ++ codes "urn:p" ++ (3 ∷ []) ++ n4 2 ++ codes "en" ++ n4 5 ++ codes "Press" ++ n4 0 ++ null ++ null ++ n4 1 ++ url
+
+abbrev pub found_body : ℕ → ℕ → List ℕ
+found_body handle now = (1 ∷ 0 ∷ 0xA9 ∷ 1 ∷ []) ++ header_answered now handle 0 ++ n4 1 ++ application_spelled
+
+abbrev pub found_first : List ℕ
+found_first = chunk_with (codes "MSGF") 1 1 2 2 (found_body 2 0)
+
+-- url, application, no certificate, no security, its policy, an anonymous token, transport profile, level
+abbrev pub endpoint_spelled : List ℕ
+endpoint_spelled = url ++ application_spelled ++ null ++ n4 1 ++ policy policy_uri ++ n4 1 ++ (n4 1 ++ codes "0" ++ n4 0 ++ null ++ null ++ null) ++ n4 65 ++ binary_profile ++ (0 ∷ [])
+
+abbrev pub offered_first : List ℕ
+offered_first = chunk_with (codes "MSGF") 1 1 2 2 ((1 ∷ 0 ∷ 0xAF ∷ 1 ∷ []) ++ header_answered 0 2 0 ++ n4 1 ++ endpoint_spelled)
+
 abbrev pub error : ℕ → List ℕ
 error status = codes "ERRF" ++ n4 16 ++ n4 status ++ null
 
@@ -100,8 +126,33 @@ error status = codes "ERRF" ++ n4 16 ++ n4 status ++ null
 abbrev pub limits : Limits
 limits = record { receive = 65535; send = 65535; max_message = 1048576; max_chunks = 64 }
 
+abbrev pub application : Application
+application = record {
+  uri = Some (codes "urn:a");
+  product_uri = Some (codes "urn:p");
+  kind = pos 0;
+  names = record { locale = Some (codes "en"); text = Some (codes "Press") } ∷ [];
+  gateway_uri = None;
+  profile_uri = None;
+  discovery_urls = Some (Some (codes "opc.tcp://localhost:4840") ∷ []);
+}
+
+abbrev pub endpoint : Endpoint
+endpoint = record {
+  url = Some (codes "opc.tcp://localhost:4840");
+  mode = pos 1;
+  policy = Some policy_uri;
+  certificate = None;
+  transport = Some binary_profile;
+  level = 0;
+  tokens = Some (record { policy_id = Some (codes "0"); token_type = pos 0; issued_token_type = None; issuer_endpoint_url = None; security_policy_uri = None } ∷ []);
+}
+
+abbrev pub settings : Configuration
+settings = record { limits = limits; application = application; endpoints = endpoint ∷ [] }
+
 abbrev pub site : Site
-site = record { limits = limits; channel = 1 }
+site = record { settings = settings; channel = 1 }
 
 -- all at one moment
 abbrev pub at_once : List ℕ → List Piece

@@ -57,7 +57,7 @@ abbrev pub heard_in : Known → Chunk → Known
 heard_in k c = record k { last = Some c.sequence; used = Some (most k.used c.token) }
 
 abbrev pub answers : Site → ℕ → ℕ → ℕ → Option Agreed → Option Request → List Reply
-answers site now token id (Some agreed) (Some request) = map (Answer token) (answer_parts agreed id (answer_body site request now))
+answers site now token id (Some agreed) (Some request) = map (Answer token) (answer_parts agreed id (answer_body site.settings request now))
 answers site now token id (Some agreed) None = []
 answers site now token id None request = []
 

@@ -60,7 +60,7 @@ chunk_rows site k f =
 -- Other request id, message too large, and of message body an abort's; then, of message body, a whole request's.
 abbrev pub message_rows : Site → Known → ℕ → Chunk → List Row
 message_rows site k flag chunk =
-    part_rows site.limits.max_message site.limits.max_chunks k.half flag chunk.request_id chunk.body
+    part_rows site.settings.limits.max_message site.settings.limits.max_chunks k.half flag chunk.request_id chunk.body
     ++ (flag == 70 && is_none (request_of (body_of k.half ++ chunk.body)), 0x80070000)
     ∷ []
 

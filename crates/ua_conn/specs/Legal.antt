@@ -77,7 +77,7 @@ abbrev pub joined_body : List Frame → List ℕ
 joined_body fs = flat_map (λ f. (carried f).body) fs
 
 abbrev pub FitTheLimits : Site → List Frame → Type 0
-FitTheLimits site fs = (length fs ≤ site.limits.max_chunks) × (length (joined_body fs) ≤ site.limits.max_message)
+FitTheLimits site fs = (length fs ≤ site.settings.limits.max_chunks) × (length (joined_body fs) ≤ site.settings.limits.max_message)
 
 pub data Turn : Type 0 where
   Renewal : Frame → Turn
@@ -158,7 +158,7 @@ IsBeginning site fs = (more : List Frame) × IsLegal site (fs ++ more)
 
 -- OPC 10000-6, 7.1.2.3: a server takes frames of 8192 bytes at least.
 abbrev pub HasRoom : Site → Type 0
-HasRoom site = 8192 ≤ site.limits.receive
+HasRoom site = 8192 ≤ site.settings.limits.receive
 
 -- a message that is half received can be dropped: an A frame can come
 abbrev pub CanDrop : Site → Past → ℕ → Type 0

@@ -77,7 +77,7 @@ abbrev pub agreed_by : Limits → Hello → Agreed
 agreed_by limits h = record { ack = negotiated limits h; answer_bytes = h.max_message; answer_parts = h.max_chunks }
 
 abbrev pub agreed : Site → Hello → Agreed
-agreed site h = agreed_by site.limits h
+agreed site h = agreed_by site.settings.limits h
 
 abbrev pub limits_of : Site → Frame → Option Agreed
 limits_of site f = option_map (agreed site) (hello_in f)

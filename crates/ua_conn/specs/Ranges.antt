@@ -5,6 +5,7 @@ use Rattle.ua_chunk.specs.Gathered.{Gathered}
 use Rattle.ua_chunk.specs.NumberLaws.{IsNumber}
 use Rattle.ua_chunk.specs.Half.{Half}
 use Rattle.ua_channel.specs.Channel.{Shown}
+use Rattle.ua_disco.specs.Configuration.{Configuration}
 use Rattle.ua_conn.specs.Past.{Agreed, Known}
 use Rattle.ua_conn.specs.Taking.{Running}
 
@@ -12,10 +13,6 @@ use Rattle.ua_conn.specs.Taking.{Running}
 pub record IsBuffer (n : ℕ) : Type 0 where
   pub least : 8192 ≤ n
   pub most : n ≤ 1048576
-
-pub record AreLimits (limits : Limits) : Type 0 where
-  pub receive : IsBuffer limits.receive
-  pub send : IsBuffer limits.send
 
 -- what is received so far, between two frames
 pub record IsBetween (limits : Limits) (half : Gathered) : Type 0 where
@@ -35,9 +32,9 @@ pub record IsConnection (limits : Limits) (channel id : ℕ) (agreed : Option Ag
 abbrev pub known_of : Option Agreed → Shown → Option Half → Known
 known_of agreed channel half = record { limits = agreed; tokens = channel.channel.tokens; last = channel.channel.last; half = half; used = channel.channel.used }
 
-abbrev pub running_of : Limits → ℕ → Option Agreed → Shown → Option Half → ℕ → Running
-running_of limits id agreed channel half next = record {
-  site = record { limits = limits; channel = id };
+abbrev pub running_of : Configuration → ℕ → Option Agreed → Shown → Option Half → ℕ → Running
+running_of settings id agreed channel half next = record {
+  site = record { settings = settings; channel = id };
   known = known_of agreed channel half;
   next = next;
   moment = channel.moment;

@@ -91,7 +91,7 @@ whole_request k f =
 -- Its answer has the greatest token used up to it. OPC 10000-4, 5.6.2.1.
 abbrev pub answer_to : Site → Known → Frame → Option Agreed → Option Request → List Reply
 answer_to site k f (Some agreed) (Some request) =
-    map (Answer (most k.used (carried f).token)) (answer_parts agreed (carried f).request_id (answer_body site request f.moment))
+    map (Answer (most k.used (carried f).token)) (answer_parts agreed (carried f).request_id (answer_body site.settings request f.moment))
 answer_to site k f (Some agreed) None = []
 answer_to site k f None request = []
 
@@ -104,7 +104,7 @@ opened_by site k now None request = []
 
 abbrev pub acknowledged : Site → Option Hello → List Reply
 acknowledged site None = []
-acknowledged site (Some hello) = Acknowledge (negotiated site.limits hello) ∷ []
+acknowledged site (Some hello) = Acknowledge (negotiated site.settings.limits hello) ∷ []
 
 -- by the frame's type
 abbrev pub reply_by : Site → Known → Frame → Option Kind → List Reply

@@ -1,7 +1,7 @@
--- A server: its limits, and the id of its channel.
+-- A server: its settings, and the id of its channel.
 use Rattle.std.specs.Prelude.{ℕ}
-use Rattle.ua_frame.specs.declared.limits.Limits.{Limits}
+use Rattle.ua_disco.specs.Configuration.{Configuration}
 
 pub record Site : Type 0 where
-  pub limits : Limits
+  pub settings : Configuration
   pub channel : ℕ

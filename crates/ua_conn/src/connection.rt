@@ -16,11 +16,11 @@ mod opening;
 
 use crate::agreed::Agreed;
 use crate::fault::Fault;
-use crate::settings::Settings;
 use std::alloc::{AllocError, Global};
 use std::marker::Model;
 use ua_channel::ServerChannel;
 use ua_chunk::{Assembly, Sequence};
+use ua_disco::Settings;
 use ua_frame::status::BAD_TCP_MESSAGE_TYPE_INVALID;
 use ua_frame::{Frame, Kind};
 use ua_service::Request;
@@ -60,7 +60,7 @@ impl<'a> Model for Connection<'a> {
 
     ghost view = { λ c. running_of c.settings.now c.id c.agreed c.channel c.half.half c.next };
 
-    ghost invariant = { λ c. IsConnection c.settings.now c.channel.channel.id c.id c.agreed c.half c.next };
+    ghost invariant = { λ c. IsConnection c.settings.now.limits c.channel.channel.id c.id c.agreed c.half c.next };
 }
 
 impl<'a> Connection<'a> {
@@ -70,8 +70,8 @@ impl<'a> Connection<'a> {
         settings: &'a Settings,
         channel_id: u32,
     ) -> Result<Connection<'a>, NoMemory>
-        ensures { IfOk result (λ c. let h = held (record { limits = settings.now; channel = channel_id }) [] in
-            c ≡ record { site = record { limits = settings.now; channel = channel_id }; known = h.known; next = h.next; moment = 0 }) }
+        ensures { IfOk result (λ c. let h = held (record { settings = settings.now; channel = channel_id }) [] in
+            c ≡ record { site = record { settings = settings.now; channel = channel_id }; known = h.known; next = h.next; moment = 0 }) }
     {
         let limits = settings.limits();
         let half = Assembly::with_capacity(alloc, limits.max_message, limits.max_chunks)?;

@@ -8,8 +8,8 @@ ghost use Rattle.ua_conn.specs.Replies as replies;
 
 use crate::outcome::Outcome;
 use crate::server::Server;
-use crate::settings::Settings;
 use std::alloc::{AllocError, Global};
+use ua_disco::Settings;
 use ua_value::NoMemory;
 
 /// Answers a whole input, which came in these pieces, each with its moment: ticks of 100 ns since 1601-01-01 UTC.
@@ -26,11 +26,11 @@ pub fn answer_all(
     pieces: &[(i64, &[u8])],
 ) -> Result<Outcome, NoMemory>
     requires { 0 < channel_id }
-    ensures reply { IfOk result (λ outcome. let site : Site = record { limits = settings.now; channel = channel_id } in
+    ensures reply { IfOk result (λ outcome. let site : Site = record { settings = settings.now; channel = channel_id } in
         outcome.reply.items ≡ reply_bytes site (timed (pieces_of pieces.now))) }
-    ensures handed { IfOk result (λ outcome. let site : Site = record { limits = settings.now; channel = channel_id } in
+    ensures handed { IfOk result (λ outcome. let site : Site = record { settings = settings.now; channel = channel_id } in
         outcome.handed.items ≡ replies.handed site (timed (pieces_of pieces.now))) }
-    ensures end { IfOk result (λ outcome. let site : Site = record { limits = settings.now; channel = channel_id } in
+    ensures end { IfOk result (λ outcome. let site : Site = record { settings = settings.now; channel = channel_id } in
         outcome.end ≡ end_of site (timed (pieces_of pieces.now))) }
 {
     let mut server = Server::new(alloc, settings, channel_id)?;

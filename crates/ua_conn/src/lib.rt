@@ -10,13 +10,11 @@ mod hearing;
 pub mod laws;
 mod outcome;
 mod server;
-mod settings;
 mod status;
 
 pub use conversation::answer_all;
 pub use outcome::{End, Outcome};
 pub use server::{Fed, FeedFault, Server};
-pub use settings::Settings;
 
 #[cfg(test)]
 mod tests;

@@ -10,9 +10,9 @@ ghost use Rattle.ua_conn.specs.Feeding.{FeedsAll, FeedsPartAll};
 use crate::connection::Connection;
 use crate::hearing::hear;
 use crate::outcome::End;
-use crate::settings::Settings;
 use std::alloc::{AllocError, Global};
 use std::marker::Model;
+use ua_disco::Settings;
 use ua_service::Request;
 use ua_value::NoMemory;
 
@@ -100,7 +100,7 @@ impl<'a> Server<'a> {
         channel_id: u32,
     ) -> Result<Server<'a>, NoMemory>
         requires { 0 < channel_id }
-        ensures { IfOk result (λ server. let site : Site = record { limits = settings.now; channel = channel_id } in
+        ensures { IfOk result (λ server. let site : Site = record { settings = settings.now; channel = channel_id } in
             server ≡ record { site = site; held = held site []; failed = false }) }
     {
         let connection = Connection::new(alloc, settings, channel_id)?;

@@ -3,13 +3,15 @@
 mod vectors;
 
 use self::vectors::{
-    ABORT_TOO_LARGE, ACKNOWLEDGE, CLOSE_REQUEST, FAULT_RESPONSE, FIND_BODY, HELLO, OPEN_REQUEST,
-    OPEN_RESPONSE, OTHER_BODY, OTHER_REQUEST, SECOND_REQUEST,
+    ABORT_TOO_LARGE, ACKNOWLEDGE, CLOSE_REQUEST, ENDPOINTS_REQUEST, ENDPOINTS_RESPONSE,
+    FAULT_RESPONSE, FIND_BODY, FIND_REQUEST, FIND_RESPONSE, HELLO, OPEN_REQUEST, OPEN_RESPONSE,
+    OTHER_BODY, OTHER_REQUEST, SECOND_REQUEST,
 };
-use crate::{End, FeedFault, Server, Settings, answer_all};
+use crate::{End, FeedFault, Server, answer_all};
 use std::alloc::{AllocError, Global};
 use std::process::Abort;
 use std::test::Fail;
+use ua_disco::{DEFAULT, Settings};
 
 /// What an input is answered: a name, the input and the reply in parts, how many requests are handed on, and the end.
 type Row = (
@@ -56,12 +58,15 @@ const TOO_LARGE: &[u8] = b"ERRF\x10\0\0\0\0\0\x80\x80\xFF\xFF\xFF\xFF";
 
 const TOO_SMALL: &[u8] = b"ERRF\x10\0\0\0\0\0\x81\x80\xFF\xFF\xFF\xFF";
 
-const ROWS: [Row; 22] = [
+const ROWS: [Row; 26] = [
     ("hello", &[HELLO], &[ACKNOWLEDGE], 0, End::InputEnded),
     ("no bytes", &[], &[], 0, End::InputEnded),
     (
         "cut hello",
-        &[BEGIN, b"\xFF\xFF\0\0"],
+        &[
+            BEGIN,
+            b"\xFF\xFF\0\0\xFF\xFF\0\0\0\0\0\0\0\0\0\0\x18\0\0\0opc.tcp://localhost:484",
+        ],
         &[],
         0,
         End::Truncated,
@@ -158,6 +163,20 @@ const ROWS: [Row; 22] = [
         End::InputEnded,
     ),
     (
+        "find servers",
+        &[HELLO, OPEN_REQUEST, FIND_REQUEST],
+        &[ACKNOWLEDGE, OPEN_RESPONSE, FIND_RESPONSE],
+        1,
+        End::InputEnded,
+    ),
+    (
+        "get endpoints",
+        &[HELLO, OPEN_REQUEST, ENDPOINTS_REQUEST],
+        &[ACKNOWLEDGE, OPEN_RESPONSE, ENDPOINTS_RESPONSE],
+        1,
+        End::InputEnded,
+    ),
+    (
         "another service",
         &[HELLO, OPEN_REQUEST, OTHER_REQUEST],
         &[ACKNOWLEDGE, OPEN_RESPONSE, FAULT_RESPONSE],
@@ -182,6 +201,20 @@ const ROWS: [Row; 22] = [
         "answers of 28 bytes",
         &[BUFFERS, b"\x1C\0\0\0", CHUNKS, OPEN_REQUEST, OTHER_REQUEST],
         &[ACKNOWLEDGE, OPEN_RESPONSE, FAULT_RESPONSE],
+        1,
+        End::InputEnded,
+    ),
+    (
+        "answers of 109 bytes",
+        &[BUFFERS, b"\x6D\0\0\0", CHUNKS, OPEN_REQUEST, FIND_REQUEST],
+        &[ACKNOWLEDGE, OPEN_RESPONSE, ABORT_TOO_LARGE],
+        1,
+        End::InputEnded,
+    ),
+    (
+        "answers of 110 bytes",
+        &[BUFFERS, b"\x6E\0\0\0", CHUNKS, OPEN_REQUEST, FIND_REQUEST],
+        &[ACKNOWLEDGE, OPEN_RESPONSE, FIND_RESPONSE],
         1,
         End::InputEnded,
     ),
@@ -269,6 +302,26 @@ fn opening(alloc: Global, sequence: u32, lifetime: u32) -> Result<Vec<u8>, Alloc
     changed(alloc, &numbered, LIFETIME_AT, &lifetime.to_le_bytes())
 }
 
+/// The settings of a text.
+fn settings_of(alloc: Global, text: &str) -> Result<Settings, AllocError> {
+    match Settings::from_toml(alloc, text.as_bytes()) {
+        Ok(settings) => Ok(settings),
+        Err(_) => Err(AllocError),
+    }
+}
+
+/// What some pieces are answered by the settings of a text: the reply, how many requests are handed on, and the end.
+fn said_by(
+    alloc: Global,
+    text: &str,
+    pieces: &[(i64, &[u8])],
+) -> Result<(Vec<u8>, usize, End), AllocError> {
+    let settings = settings_of(alloc, text)?;
+    let outcome = answer_all(alloc, &settings, 1, pieces)?;
+    let handed = outcome.handed.len();
+    Ok((outcome.reply, handed, outcome.end))
+}
+
 /// The input in pieces of so many bytes, all at one moment.
 fn cut(alloc: Global, input: &[u8], len: usize) -> Result<Vec<(i64, &[u8])>, AllocError> {
     let mut pieces = Vec::new(alloc);
@@ -296,10 +349,9 @@ fn check(
 ) -> Result<(), AllocError> {
     for len in [usize::MAX, 1, 7, 100] {
         let pieces = cut(alloc, input, len)?;
-        let outcome = answer_all(alloc, &Settings::builtin(), 1, &pieces)?;
-        assert_eq!(rt; outcome.reply.as_slice(), reply, "{name} by {len}");
-        assert_eq!(rt; outcome.handed.len(), handed, "{name} by {len}");
-        assert_eq!(rt; outcome.end, end, "{name} by {len}");
+        let (said, count, ending) = said_by(alloc, DEFAULT, &pieces)?;
+        assert_eq!(rt; said.as_slice(), reply, "{name} by {len}");
+        assert_eq!(rt; (count, ending), (handed, end), "{name} by {len}");
     }
     Ok(())
 }
@@ -312,6 +364,97 @@ fn rows_are_answered_in_any_pieces(rt: HostRuntime) -> Result<(), Fail> {
         let reply = joined(alloc, reply)?;
         check(&rt, alloc, name, &input, &reply, handed, end)?;
     }
+    Ok(())
+}
+
+/// Settings with a name in two languages.
+const TWO_NAMES: &str = "version = 1
+[application]
+uri = \"urn:a\"
+product_uri = \"urn:p\"
+discovery_urls = [\"opc.tcp://localhost:4840\"]
+names = [{ locale = \"en\", text = \"Press\" }, { locale = \"de\", text = \"Presse\" }]
+";
+
+/// The locales of a FindServers request: fr, de and en.
+const LOCALES: &[u8] = b"\x03\0\0\0\x02\0\0\0fr\x02\0\0\0de\x02\0\0\0en";
+
+/// Where the body of a FindServers request has its locales, and that of its answer the name.
+const LOCALES_AT: usize = 61;
+
+const NAME_AT: usize = 51;
+
+/// What is answered by those settings to a FindServers request with this body.
+fn found(alloc: Global, body: &[u8]) -> Result<Vec<u8>, AllocError> {
+    let find = chunk(alloc, b"MSGF", 1, 2, 2, body)?;
+    let input = joined(alloc, &[HELLO, OPEN_REQUEST, &find])?;
+    let (reply, _, _) = said_by(alloc, TWO_NAMES, &[(0, input.as_slice())])?;
+    Ok(reply)
+}
+
+/// Those settings answer a FindServers request with this body by that body.
+fn finds(rt: &impl Abort, alloc: Global, body: &[u8], answered: &[u8]) -> Result<(), AllocError> {
+    let frame = chunk(alloc, b"MSGF", 1, 2, 2, answered)?;
+    let reply = joined(alloc, &[ACKNOWLEDGE, OPEN_RESPONSE, &frame])?;
+    let said = found(alloc, body)?;
+    assert_eq!(rt; said.as_slice(), reply.as_slice());
+    Ok(())
+}
+
+/// The name is in the earliest of the locales that some name has, and without locales it is the first.
+#[test]
+fn names_are_in_the_earliest_locale(rt: HostRuntime) -> Result<(), Fail> {
+    let alloc = rt.alloc();
+    let (front, back) = FIND_BODY.split_at(LOCALES_AT);
+    let asked = joined(alloc, &[front, LOCALES, &back[4..]])?;
+    let (before, name) = FIND_RESPONSE[24..].split_at(NAME_AT);
+    let german: &[u8] = b"\x02\0\0\0de\x06\0\0\0Presse";
+    let answered = joined(alloc, &[before, german, &name[15..]])?;
+    assert_eq!(&rt; answered.len(), 111);
+    finds(&rt, alloc, &asked, &answered)?;
+    finds(&rt, alloc, FIND_BODY, &FIND_RESPONSE[24..])?;
+    Ok(())
+}
+
+/// A Hello whose url has so many bytes.
+fn hello_to(alloc: Global, len: u32) -> Result<Vec<u8>, AllocError> {
+    let mut url = Vec::new(alloc);
+    for _ in 0..len {
+        url.push(b'x')?;
+    }
+    let mut all = joined(alloc, &[b"HELF"])?;
+    all.extend_from_slice(&len.wrapping_add(32).to_le_bytes())?;
+    all.extend_from_slice(&BUFFERS[8..])?;
+    all.extend_from_slice(&[0; 8])?;
+    all.extend_from_slice(&len.to_le_bytes())?;
+    all.extend_from_slice(&url)?;
+    Ok(all)
+}
+
+#[test]
+fn urls_have_4095_bytes_at_most(rt: HostRuntime) -> Result<(), Fail> {
+    let alloc = rt.alloc();
+    let longest = hello_to(alloc, 4095)?;
+    check(
+        &rt,
+        alloc,
+        "4095",
+        &longest,
+        ACKNOWLEDGE,
+        0,
+        End::InputEnded,
+    )?;
+    let longer = hello_to(alloc, 4096)?;
+    let refused = b"ERRF\x10\0\0\0\0\0\x83\x80\xFF\xFF\xFF\xFF";
+    check(
+        &rt,
+        alloc,
+        "4096",
+        &longer,
+        refused,
+        0,
+        End::Refused(0x8083_0000),
+    )?;
     Ok(())
 }
 
@@ -356,8 +499,8 @@ fn aborted_message_is_dropped(rt: HostRuntime) -> Result<(), Fail> {
         alloc,
         &[HELLO, OPEN_REQUEST, &first, &second, &abort, &find],
     )?;
-    let fault = changed(alloc, FAULT_RESPONSE, 20, b"\x03")?;
-    let reply = joined(alloc, &[ACKNOWLEDGE, OPEN_RESPONSE, &fault])?;
+    let found = changed(alloc, FIND_RESPONSE, 20, b"\x03")?;
+    let reply = joined(alloc, &[ACKNOWLEDGE, OPEN_RESPONSE, &found])?;
     check(&rt, alloc, "aborted", &input, &reply, 1, End::InputEnded)?;
     Ok(())
 }
@@ -391,21 +534,30 @@ fn numbered(
     Ok(input)
 }
 
+/// Compares how such an opening ends.
+fn follows(
+    rt: &impl Abort,
+    alloc: Global,
+    row: (u32, u32, Option<u32>, bool),
+) -> Result<(), AllocError> {
+    let (first, second, third, follow) = row;
+    let input = numbered(alloc, first, second, third)?;
+    let pieces = cut(alloc, &input, 50)?;
+    let (reply, handed, end) = said_by(alloc, DEFAULT, &pieces)?;
+    if follow {
+        let count = if third.is_some() { 2 } else { 1 };
+        assert_eq!(rt; (handed, end), (count, End::InputEnded), "{first}");
+    } else {
+        assert_eq!(rt; end, End::Refused(0x8088_0000), "{first}");
+        assert_eq!(rt; reply.ends_with(BAD_NUMBER), true, "{first}");
+    }
+    Ok(())
+}
+
 #[test]
 fn sequence_numbers_follow_and_wrap(rt: HostRuntime) -> Result<(), Fail> {
-    let alloc = rt.alloc();
-    for (first, second, third, follow) in NUMBERS {
-        let input = numbered(alloc, first, second, third)?;
-        let pieces = cut(alloc, &input, 50)?;
-        let outcome = answer_all(alloc, &Settings::builtin(), 1, &pieces)?;
-        if follow {
-            let handed = if third.is_some() { 2 } else { 1 };
-            assert_eq!(&rt; outcome.end, End::InputEnded, "{first}");
-            assert_eq!(&rt; outcome.handed.len(), handed, "{first}");
-        } else {
-            assert_eq!(&rt; outcome.end, End::Refused(0x8088_0000), "{first}");
-            assert_eq!(&rt; outcome.reply.ends_with(BAD_NUMBER), true, "{first}");
-        }
+    for row in NUMBERS {
+        follows(&rt, rt.alloc(), row)?;
     }
     Ok(())
 }
@@ -413,14 +565,41 @@ fn sequence_numbers_follow_and_wrap(rt: HostRuntime) -> Result<(), Fail> {
 /// How a connection ends whose request comes in two pieces, at these two moments.
 fn at_moments(alloc: Global, first: i64, second: i64) -> Result<(Vec<u8>, End), AllocError> {
     let open = opening(alloc, 1, 10_000)?;
-    let (front, back) = OTHER_REQUEST.split_at(1);
+    let (front, back) = FIND_REQUEST.split_at(1);
     let mut pieces: Vec<(i64, &[u8])> = Vec::new(alloc);
     pieces.push((0, HELLO))?;
     pieces.push((0, &open))?;
     pieces.push((first, front))?;
     pieces.push((second, back))?;
-    let outcome = answer_all(alloc, &Settings::builtin(), 1, &pieces)?;
-    Ok((outcome.reply, outcome.end))
+    let (reply, _, end) = said_by(alloc, DEFAULT, &pieces)?;
+    Ok((reply, end))
+}
+
+/// A request in the last tick of its token is answered.
+fn in_time(rt: &impl Abort, alloc: Global, opened: &[u8]) -> Result<(), AllocError> {
+    let found = changed(alloc, FIND_RESPONSE, 28, &124_999_999_u64.to_le_bytes())?;
+    let answered = joined(alloc, &[opened, &found])?;
+    let (reply, end) = at_moments(alloc, 124_999_999, 124_999_999)?;
+    assert_eq!(rt;
+        (reply.as_slice(), end),
+        (answered.as_slice(), End::InputEnded)
+    );
+    Ok(())
+}
+
+/// One whose last byte comes later is refused.
+fn too_late(
+    rt: &impl Abort,
+    alloc: Global,
+    opened: &[u8],
+    first: i64,
+    second: i64,
+) -> Result<(), AllocError> {
+    let refused = joined(alloc, &[opened, BAD_TOKEN])?;
+    let (reply, end) = at_moments(alloc, first, second)?;
+    assert_eq!(rt; end, End::Refused(0x8087_0000), "{first} {second}");
+    assert_eq!(rt; reply.as_slice(), refused.as_slice(), "{first} {second}");
+    Ok(())
 }
 
 /// A token of ten seconds is alive for twelve and a half, counted to the last byte of a frame.
@@ -429,22 +608,13 @@ fn token_lives_a_quarter_longer_than_its_lifetime(rt: HostRuntime) -> Result<(),
     let alloc = rt.alloc();
     let response = changed(alloc, OPEN_RESPONSE, 127, b"\x10\x27\0")?;
     let opened = joined(alloc, &[ACKNOWLEDGE, &response])?;
-    let (reply, end) = at_moments(alloc, 124_999_999, 124_999_999)?;
-    let fault = changed(alloc, FAULT_RESPONSE, 28, &124_999_999_u64.to_le_bytes())?;
-    let answered = joined(alloc, &[&opened, &fault])?;
-    assert_eq!(&rt;
-        (reply.as_slice(), end),
-        (answered.as_slice(), End::InputEnded)
-    );
-    let refused = joined(alloc, &[&opened, BAD_TOKEN])?;
+    in_time(&rt, alloc, &opened)?;
     for (first, second) in [
         (125_000_000, 125_000_000),
         (0, 125_000_000),
         (125_000_000, 0),
     ] {
-        let (reply, end) = at_moments(alloc, first, second)?;
-        assert_eq!(&rt; end, End::Refused(0x8087_0000), "{first} {second}");
-        assert_eq!(&rt; reply.as_slice(), refused.as_slice(), "{first} {second}");
+        too_late(&rt, alloc, &opened, first, second)?;
     }
     Ok(())
 }
@@ -468,20 +638,27 @@ fn large(alloc: Global, len: usize) -> Result<Vec<u8>, AllocError> {
     Ok(all)
 }
 
+/// Compares what a request of so many bytes is answered behind the opening.
+fn large_is(
+    rt: &impl Abort,
+    alloc: Global,
+    len: usize,
+    answer: &[u8],
+    end: End,
+) -> Result<(), AllocError> {
+    let input = large(alloc, len)?;
+    let reply = joined(alloc, &[ACKNOWLEDGE, OPEN_RESPONSE, answer])?;
+    let (said, _, ending) = said_by(alloc, DEFAULT, &[(0, input.as_slice())])?;
+    assert_eq!(rt; said.as_slice(), reply.as_slice(), "{len}");
+    assert_eq!(rt; ending, end, "{len}");
+    Ok(())
+}
+
 #[test]
 fn requests_are_as_large_as_the_limits_say(rt: HostRuntime) -> Result<(), Fail> {
     let alloc = rt.alloc();
-    let answered = joined(alloc, &[ACKNOWLEDGE, OPEN_RESPONSE, FAULT_RESPONSE])?;
-    let refused = joined(alloc, &[ACKNOWLEDGE, OPEN_RESPONSE, TOO_LARGE])?;
-    for (len, reply, end) in [
-        (1_048_576, answered.as_slice(), End::InputEnded),
-        (1_048_577, refused.as_slice(), End::Refused(0x8080_0000)),
-    ] {
-        let input = large(alloc, len)?;
-        let outcome = answer_all(alloc, &Settings::builtin(), 1, &[(0, input.as_slice())])?;
-        assert_eq!(&rt; outcome.reply.as_slice(), reply, "{len}");
-        assert_eq!(&rt; outcome.end, end, "{len}");
-    }
+    large_is(&rt, alloc, 1_048_576, FAULT_RESPONSE, End::InputEnded)?;
+    large_is(&rt, alloc, 1_048_577, TOO_LARGE, End::Refused(0x8080_0000))?;
     Ok(())
 }
 
@@ -545,7 +722,7 @@ fn answers_name_the_newest_token_that_was_used(rt: HostRuntime) -> Result<(), Fa
 #[test]
 fn server_takes_no_more_after_an_end(rt: HostRuntime) -> Result<(), Fail> {
     let alloc = rt.alloc();
-    let settings = Settings::builtin();
+    let settings = settings_of(alloc, DEFAULT)?;
     let mut server = Server::new(alloc, &settings, 1)?;
     let mut out = Vec::new(alloc);
     let input = joined(alloc, &[HELLO, OPEN_REQUEST, OTHER_REQUEST])?;
@@ -565,21 +742,29 @@ fn server_takes_no_more_after_an_end(rt: HostRuntime) -> Result<(), Fail> {
     Ok(())
 }
 
-/// An opening with two requests: the whole answer, or none.
+/// An opening with two requests.
+const TWO_REQUESTS: [(i64, &[u8]); 4] = [
+    (0, HELLO),
+    (0, OPEN_REQUEST),
+    (0, FIND_REQUEST),
+    (0, SECOND_REQUEST),
+];
+
+/// Where memory is there, none is wanted.
+#[test]
+fn memory_is_ample(rt: HostRuntime) -> Result<(), Fail> {
+    let (reply, handed, end) = said_by(rt.alloc(), DEFAULT, &TWO_REQUESTS)?;
+    assert_eq!(&rt; (reply.len(), handed), (349, 2));
+    assert_eq!(&rt; end, End::InputEnded);
+    Ok(())
+}
+
+/// The whole answer, or none.
 #[test]
 fn answer_all_or_no_memory(rt: HostRuntime) -> Result<(), Fail> {
-    let alloc = rt.alloc();
-    let settings = Settings::builtin();
-    let pieces = [
-        (0, HELLO),
-        (0, OPEN_REQUEST),
-        (0, OTHER_REQUEST),
-        (0, SECOND_REQUEST),
-    ];
-    if let Ok(outcome) = answer_all(alloc, &settings, 1, &pieces) {
-        assert_eq!(&rt; outcome.reply.len(), 267);
-        assert_eq!(&rt; outcome.handed.len(), 2);
-        assert_eq!(&rt; outcome.end, End::InputEnded);
+    if let Ok((reply, handed, end)) = said_by(rt.alloc(), DEFAULT, &TWO_REQUESTS) {
+        assert_eq!(&rt; (reply.len(), handed), (349, 2));
+        assert_eq!(&rt; end, End::InputEnded);
     }
     Ok(())
 }

@@ -1,6 +1,6 @@
 //! The settings of a server.
 
-ghost use Rattle.std.specs.Prelude.{◌≡◌, option_copied, option_map};
+ghost use Rattle.std.specs.Prelude.{◌≡◌, option_copied};
 ghost use Rattle.ua_disco.specs.Bounds.{IsLimits, IsConfiguration};
 ghost use Rattle.ua_disco.specs.Settings.{first_url_of};
 
@@ -33,7 +33,7 @@ impl Settings {
     /// The limits of the server.
     pub fn limits(&self) -> Limits
         ensures limits { result ≡ self.now.limits }
-        ensures within { IsLimits self.now.limits }
+        ensures within { IsLimits result }
     {
         self.limits
     }

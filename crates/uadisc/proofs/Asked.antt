@@ -5,7 +5,7 @@ use Rattle.clap.specs.Words.{App, Row, Text, HasMatchesOf, fault_of, is_simple_a
 use Rattle.clap.proofs.WalkLemmas.{first_value-rows}
 use Rattle.clap.specs.declared.parser.matches.Found.{Found}
 use Rattle.clap.specs.declared.parser.matches.ArgMatches.{ArgMatches}
-use Rattle.uadisc.specs.Command.{Asks, AsksFor, RefusedBy, IsWordsFault, IsAnswerOf, IsValueOf, IsHexOf, uadisc}
+use Rattle.uadisc.specs.Command.{Asks, AsksFor, RefusedBy, IsWordsFault, IsSourceOf, IsAnswerOf, IsValueOf, IsHexOf, uadisc}
 use Rattle.uadisc.specs.declared.command.Command.{Command}
 use Rattle.uadisc.specs.declared.command.Command.TheVariants.{Answer, Value}
 use Rattle.uadisc.specs.declared.command.WordsFault.{WordsFault}
@@ -41,9 +41,10 @@ two_names : codes "answer" ≡ codes "value" → ⊥
 two_names e = absurd (cc)
 
 answer_not_named : (f : Found) → ((c : Command) → IsAnswerOf (first_value f) c → ⊥) → (c : Command) → Asks (Some (codes "answer", rows_of f)) c → ⊥
-answer_not_named f none Answer h =
+answer_not_named f none (Answer source) h =
     let rows : rows_of f ≡ h.0 = ap (λ p. p.1) (same_Some _ _ h.1) in
-    none Answer (first_value-rows f (codes "settings") ∙ ap (λ (r : List Row). first_of (codes "settings") r) rows ∙ h.2)
+    let word_is = first_value-rows f (codes "settings") ∙ ap (λ (r : List Row). first_of (codes "settings") r) rows in
+    none (Answer source) (subst (λ w. IsSourceOf w source) (sym word_is) h.2)
 answer_not_named f none (Value kind bytes) h = two_names (ap (λ p. p.0) (same_Some _ _ h.1))
 
 by_answer : (f : Found) (r : Result Command WordsFault) → IfErr r (RefusedBy (IsAnswerOf (first_value f))) → IfErr r (RefusedBy (Asks (Some (codes "answer", rows_of f))))
@@ -55,7 +56,7 @@ pub answer_refused : (f : Found) (found : Option (Text × List Row)) (r : Result
 answer_refused f found r e h = subst (λ x. IfErr r (RefusedBy (Asks x))) (sym e) (by_answer f r h)
 
 value_not_named : (f : Found) → ((c : Command) → IsValueOf (first_value f) c → ⊥) → (c : Command) → Asks (Some (codes "value", rows_of f)) c → ⊥
-value_not_named f none Answer h = two_names (sym (ap (λ p. p.0) (same_Some _ _ h.1)))
+value_not_named f none (Answer source) h = two_names (sym (ap (λ p. p.0) (same_Some _ _ h.1)))
 value_not_named f none (Value kind bytes) h =
     let rows : rows_of f ≡ h.0 = ap (λ p. p.1) (same_Some _ _ h.1) in
     let word_is : (id : Text) → first_value f id ≡ first_of id h.0 = λ id. first_value-rows f id ∙ ap (λ (r : List Row). first_of id r) rows in

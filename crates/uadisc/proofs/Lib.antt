@@ -4,3 +4,4 @@ pub mod Values
 pub mod Asked
 pub mod Codes
 pub mod Ends
+pub mod Stops

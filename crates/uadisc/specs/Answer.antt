@@ -4,23 +4,26 @@ use Rattle.std.specs.Fmt.{digits}
 use Rattle.std.specs.Io.KnownBytes.{Appends}
 use Rattle.hex.specs.Hex.{encode_lower}
 use Rattle.ua_frame.specs.Streams.{Piece, TimedByte, moment_of, timed}
+use Rattle.ua_disco.specs.Configuration.{Configuration}
 use Rattle.uadisc.specs.End.{end_status}
 use Rattle.ua_conn.specs.Replies.{reply_bytes, end_of}
 use Rattle.ua_conn.specs.Site.{Site}
 use Rattle.ua_conn.specs.declared.outcome.End.{End}
 use Rattle.ua_conn.specs.declared.outcome.End.TheVariants.{Closed, InputEnded, Truncated, Refused, LinkFailed, TurnsSpent, NoMemory}
 use Rattle.uadisc.specs.Script.{Timed, script_in}
+use Rattle.uadisc.specs.Settings.{IsSettings}
+use Rattle.uadisc.specs.declared.settings.Source.{Source}
 
--- a server of the built-in settings, with channel 1
-abbrev pub default_site : Site
-default_site = record { limits = record { receive = 65535; send = 65535; max_message = 1048576; max_chunks = 64 }; channel = 1 }
+-- a server with these settings, with channel 1
+abbrev pub site_with : Configuration → Site
+site_with settings = record { settings = settings; channel = 1 }
 
 -- what it answers to a stream, and how it ends
-abbrev pub answered : List TimedByte → List ℕ
-answered s = reply_bytes default_site s
+abbrev pub answered : Configuration → List TimedByte → List ℕ
+answered settings s = reply_bytes (site_with settings) s
 
-abbrev pub ending : List TimedByte → End
-ending s = end_of default_site s
+abbrev pub ending : Configuration → List TimedByte → End
+ending settings s = end_of (site_with settings) s
 
 abbrev pub piece_of : Timed → Piece
 piece_of p = record { moment = moment_of p.0; bytes = p.1 }
@@ -51,10 +54,14 @@ abbrev pub IsInput : Option (List ℕ) → List ℕ → Type 0
 IsInput left text = IfSome left (λ bytes. text ≡ bytes)
 
 -- the lines that answer these pieces stand behind what the writer held, and the status is that of their end
-pub record Answers (pieces : List Timed) (old new : Option (List ℕ)) (status : ℕ) : Type 0 where
-  pub printed : Appends old new (answer_lines (answered (stream_of pieces)) (ending (stream_of pieces)))
-  pub status_is : status ≡ end_status (ending (stream_of pieces))
+pub record Answers (settings : Configuration) (pieces : List Timed) (old new : Option (List ℕ)) (status : ℕ) : Type 0 where
+  pub printed : Appends old new (answer_lines (answered settings (stream_of pieces)) (ending settings (stream_of pieces)))
+  pub status_is : status ≡ end_status (ending settings (stream_of pieces))
 
 -- the pieces that the reader's lines give are answered
-abbrev pub AnswersInput : Option (List ℕ) → Option (List ℕ) → Option (List ℕ) → ℕ → Type 0
-AnswersInput left old new status = (text : List ℕ) × (pieces : List Timed) × IsInput left text × (script_in text ≡ Ok pieces) × Answers pieces old new status
+abbrev pub AnswersInput : Configuration → Option (List ℕ) → Option (List ℕ) → Option (List ℕ) → ℕ → Type 0
+AnswersInput settings left old new status = (text : List ℕ) × (pieces : List Timed) × IsInput left text × (script_in text ≡ Ok pieces) × Answers settings pieces old new status
+
+-- they are answered by the settings of the source
+abbrev pub AnswersBy : Source → Option (List ℕ) → Option (List ℕ) → Option (List ℕ) → ℕ → Type 0
+AnswersBy source left old new status = (settings : Configuration) × IsSettings source settings × AnswersInput settings left old new status

@@ -1,5 +1,5 @@
 -- The command line as clap reads it.
-use Rattle.std.specs.Prelude.{◌≡◌, ℕ, codes, true, Some, None, Option, List, [], Ok}
+use Rattle.std.specs.Prelude.{◌≡◌, ℕ, codes, string_bytes, true, Some, None, Option, List, [], Ok}
 use Rattle.clap.specs.Words.{App, Rule, Row, Text, fault_of, first_of, new_app, new_rule, subcommand_of, with_rule, with_subcommand}
 use Rattle.clap.specs.declared.builder.action.ArgAction.TheVariants.{Set}
 use Rattle.clap.specs.declared.error.kind.ErrorKind.{ErrorKind}
@@ -10,6 +10,8 @@ use Rattle.uadisc.specs.declared.command.Command.{Command}
 use Rattle.uadisc.specs.declared.command.Command.TheVariants.{Answer, Value}
 use Rattle.uadisc.specs.declared.command.WordsFault.{WordsFault}
 use Rattle.uadisc.specs.declared.command.WordsFault.TheVariants.{Refused, NoMemory}
+use Rattle.uadisc.specs.declared.settings.Source.{Source}
+use Rattle.uadisc.specs.declared.settings.Source.TheVariants.{Default, File}
 
 -- a word that has to be there
 abbrev pub word_rule : Text → Rule
@@ -36,19 +38,24 @@ abbrev pub IsHexOf : List ℕ → Option Text → Type 0
 IsHexOf bytes None = ⊥
 IsHexOf bytes (Some digits) = decode_of digits ≡ Ok bytes
 
+-- `default` is the built-in settings, and any other text the path of a file
+abbrev pub IsSourceOf : Option Text → Source → Type 0
+IsSourceOf text Default = text ≡ Some (codes "default")
+IsSourceOf text (File path) = (text ≡ Some (string_bytes path)) × (string_bytes path ≡ codes "default" → ⊥)
+
 -- the command is `answer` with the settings among these words
 abbrev pub IsAnswerOf : Words → Command → Type 0
-IsAnswerOf word Answer = word (codes "settings") ≡ Some (codes "default")
+IsAnswerOf word (Answer source) = IsSourceOf (word (codes "settings")) source
 IsAnswerOf word (Value kind bytes) = ⊥
 
 -- the command is `value` with the type and the bytes among these words
 abbrev pub IsValueOf : Words → Command → Type 0
-IsValueOf word Answer = ⊥
+IsValueOf word (Answer source) = ⊥
 IsValueOf word (Value kind bytes) = (word (codes "type") ≡ Some (name_of kind)) × IsHexOf bytes.items (word (codes "hex"))
 
 -- the words that clap finds name this command, with these values
 abbrev pub Asks : Option (Text × List Row) → Command → Type 0
-Asks found Answer = (rows : List Row) × (found ≡ Some (codes "answer", rows)) × IsAnswerOf (λ id. first_of id rows) Answer
+Asks found (Answer source) = (rows : List Row) × (found ≡ Some (codes "answer", rows)) × IsAnswerOf (λ id. first_of id rows) (Answer source)
 Asks found (Value kind bytes) = (rows : List Row) × (found ≡ Some (codes "value", rows)) × IsValueOf (λ id. first_of id rows) (Value kind bytes)
 
 -- Clap takes the words, and they name this command, with these values.

@@ -1,6 +1,7 @@
 pub mod TypeNames
 pub mod Command
 pub mod Script
+pub mod Settings
 pub mod Stop
 pub mod Printed
 pub mod End

@@ -1,15 +1,15 @@
 -- What a whole run of the command does.
-use Rattle.std.specs.Prelude.{◌≡◌, ◌⊎◌, ◌≤◌, ℕ, List, Option, Err}
+use Rattle.std.specs.Prelude.{◌≡◌, ◌⊎◌, ◌≤◌, ℕ, List, Option}
 use Rattle.clap.specs.Words.{Text}
-use Rattle.uadisc.specs.Answer.{IsInput, AnswersInput}
+use Rattle.uadisc.specs.Answer.{AnswersBy}
 use Rattle.uadisc.specs.Command.{AsksFor}
 use Rattle.uadisc.specs.Printed.{Shape, shape_of, PrintsOnto, RefusesOnto}
-use Rattle.uadisc.specs.Script.{script_in}
-use Rattle.uadisc.specs.Stop.{status_of, IsQuiet}
+use Rattle.uadisc.specs.Stop.{status_of, IsAnswerStop, IsQuiet}
 use Rattle.uadisc.specs.declared.command.Command.{Command}
 use Rattle.uadisc.specs.declared.command.Command.TheVariants.{Answer, Value}
 use Rattle.uadisc.specs.declared.stop.Stop.{Stop}
-use Rattle.uadisc.specs.declared.stop.Stop.TheVariants.{Words, Line, File, NoMemory}
+use Rattle.uadisc.specs.declared.settings.Source.{Source}
+use Rattle.uadisc.specs.declared.stop.Stop.TheVariants.{Words, Settings, Line, File, NoMemory}
 
 -- at 0 the lines of a value stand behind what the writer held, and at 1 one line that says that there is none
 pub record Shows (s : Shape) (input : List ℕ) (old new : Option (List ℕ)) (status : ℕ) : Type 0 where
@@ -19,18 +19,19 @@ pub record Shows (s : Shape) (input : List ℕ) (old new : Option (List ℕ)) (s
 
 -- what a command does with its input and output, where nothing stops it
 abbrev pub Does : Command → Option (List ℕ) → Option (List ℕ) → Option (List ℕ) → ℕ → Type 0
-Does Answer left old new status = AnswersInput left old new status
+Does (Answer source) left old new status = AnswersBy source left old new status
 Does (Value kind bytes) left old new status = Shows (shape_of kind) bytes.items old new status
 
 -- the command that the words ask for is done
 abbrev pub Done : List Text → Option (List ℕ) → Option (List ℕ) → Option (List ℕ) → ℕ → Type 0
 Done words left old new status = (c : Command) × AsksFor words c × Does c left old new status
 
--- Bad words are those that ask for nothing, and a bad line is the first bad one of what `answer` reads.
+-- Bad words are those that ask for nothing, bad settings those of `answer`, and a bad line is the first bad one of what it reads by good settings.
 -- A failed read or write stops only what was asked for, and want of memory may come at any words.
 abbrev pub IsStop : List Text → Option (List ℕ) → Stop → Type 0
 IsStop words left (Words text) = (c : Command) → AsksFor words c → ⊥
-IsStop words left (Line number) = AsksFor words Answer × (text : List ℕ) × IsInput left text × (script_in text ≡ Err number)
+IsStop words left (Settings fault) = (source : Source) × AsksFor words (Answer source) × IsAnswerStop source left (Settings fault)
+IsStop words left (Line number) = (source : Source) × AsksFor words (Answer source) × IsAnswerStop source left (Line number)
 IsStop words left File = (c : Command) × AsksFor words c
 IsStop words left NoMemory = Unit {0}
 

@@ -1,18 +1,21 @@
 //! The command `answer`: answers the pieces of a connection.
 
 ghost use Rattle.std.specs.Prelude.{◌≡◌, List, ℕ, IfOk, IfErr, Ok, Some, string_bytes};
-ghost use Rattle.uadisc.specs.Answer.{answer_lines, answered as answered_bytes, ending, end_text, status_text, stream_of, IsInput, AnswersInput};
+ghost use Rattle.uadisc.specs.Answer.{answer_lines, answered as answered_bytes, ending, end_text, status_text, stream_of, IsInput, AnswersInput, AnswersBy};
 ghost use Rattle.uadisc.specs.End.{end_status};
 ghost use Rattle.uadisc.specs.Script.{script_in, times};
-ghost use Rattle.uadisc.specs.Stop.{IsInputStop, IsQuiet};
+ghost use Rattle.uadisc.specs.Stop.{IsInputStop, IsAnswerStop, IsQuiet};
 
 use crate::input::read_whole;
 use crate::script::{TimedPiece, script_of};
+use crate::settings::{Source, settings_in};
 use crate::stop::{Stop, print};
 use std::alloc::Global;
 use std::fmt;
 use std::io::{Read, Write};
-use ua_conn::{End, Outcome, Settings, answer_all};
+use std::rt::Files;
+use ua_conn::{End, Outcome, answer_all};
+use ua_disco::Settings;
 use ua_value::NoMemory;
 
 /// The id of the channel that a connection of the command has.
@@ -52,15 +55,15 @@ impl fmt::Display for Code {
 }
 
 /// What the pieces are answered.
-fn answered(alloc: Global, pieces: &[TimedPiece]) -> Result<Outcome, NoMemory>
-    ensures reply { IfOk result (λ outcome. outcome.reply.items ≡ answered_bytes (stream_of (times pieces.now))) }
-    ensures end { IfOk result (λ outcome. outcome.end ≡ ending (stream_of (times pieces.now))) }
+fn answered(alloc: Global, settings: &Settings, pieces: &[TimedPiece]) -> Result<Outcome, NoMemory>
+    ensures reply { IfOk result (λ outcome. outcome.reply.items ≡ answered_bytes settings.now (stream_of (times pieces.now))) }
+    ensures end { IfOk result (λ outcome. outcome.end ≡ ending settings.now (stream_of (times pieces.now))) }
 {
     let mut lent: Vec<(i64, &[u8])> = Vec::new(alloc);
     'pieces: for piece in pieces {
         lent.push((piece.moment, piece.bytes.as_slice()))?;
     }
-    answer_all(alloc, &Settings::builtin(), CHANNEL, lent.as_slice())
+    answer_all(alloc, settings, CHANNEL, lent.as_slice())
 }
 
 /// The reply in hex on one line, and the end on another.
@@ -95,19 +98,39 @@ fn pieces_in<I: Read>(alloc: Global, input: &mut I) -> Result<Vec<TimedPiece>, S
     Ok(pieces)
 }
 
-/// Answers the pieces that the input gives, prints the reply and the end, and gives the exit
-/// status: 0 where a close came or the input ended behind a whole frame, else 1.
-///
-/// Nothing is printed before the input was read to its end, all of its lines were understood and
-/// the lines of the answer are made.
-pub fn answer<I: Read, O: Write>(alloc: Global, input: &mut I, output: &mut O) -> Result<u8, Stop>
-    ensures ok { IfOk result (AnswersInput (I.remaining input.old) (O.contents output.old) (O.contents output.new)) }
+/// Answers the pieces that the input gives by these settings, prints the reply and the end, and gives the exit status.
+fn answer_input<I: Read, O: Write>(
+    alloc: Global,
+    settings: &Settings,
+    input: &mut I,
+    output: &mut O,
+) -> Result<u8, Stop>
+    ensures ok { IfOk result (AnswersInput settings.now (I.remaining input.old) (O.contents output.old) (O.contents output.new)) }
     ensures err { IfErr result (IsInputStop (I.remaining input.old)) }
     ensures quiet { IfErr result (λ stop. IsQuiet stop (O.contents output.old) (O.contents output.new)) }
 {
     let pieces = pieces_in(alloc, input)?;
-    let outcome = answered(alloc, pieces.as_slice())?;
+    let outcome = answered(alloc, settings, pieces.as_slice())?;
     let lines = lines(alloc, outcome.reply.as_slice(), outcome.end)?;
     print(output, lines.as_str())?;
     Ok(status_of(outcome.end))
+}
+
+/// Answers the pieces that the input gives by the settings of the source, prints the reply and the end, and gives the
+/// exit status: 0 where a close came or the input ended behind a whole frame, else 1.
+///
+/// The settings are read first. Nothing is printed before they were understood, the input was read to its end, all of
+/// its lines were understood and the lines of the answer are made.
+pub fn answer<R: Files + AllocGlobal, I: Read, O: Write>(
+    rt: &R,
+    source: &Source,
+    input: &mut I,
+    output: &mut O,
+) -> Result<u8, Stop>
+    ensures ok { IfOk result (AnswersBy source.now (I.remaining input.old) (O.contents output.old) (O.contents output.new)) }
+    ensures err { IfErr result (IsAnswerStop source.now (I.remaining input.old)) }
+    ensures quiet { IfErr result (λ stop. IsQuiet stop (O.contents output.old) (O.contents output.new)) }
+{
+    let settings = settings_in(rt, source)?;
+    answer_input(rt.alloc(), &settings, input, output)
 }

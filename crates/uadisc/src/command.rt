@@ -6,6 +6,7 @@ ghost use Rattle.clap.specs.declared.builder.command.Command.TheViews.{out-Comma
 ghost use Rattle.clap.specs.Values.{kind_of};
 ghost use Rattle.uadisc.specs.Command.{Asks, AsksFor, IsWordsFault, IsErrorFault, RefusedBy, IsAnswerOf, IsValueOf, word_rule, answer_app, value_app, uadisc};
 
+use crate::settings::Source;
 use crate::type_name::{TypeName, of_name};
 use clap::error::ErrorKind;
 use clap::{Arg, ArgAction, ArgMatches, Command as Parser};
@@ -15,8 +16,8 @@ use std::alloc::{AllocError, Global};
 /// What the words ask for.
 #[derive(Debug, Drop)]
 pub enum Command {
-    /// Answer the pieces of standard input by the built-in settings.
-    Answer,
+    /// Answer the pieces of standard input by the settings of this source.
+    Answer(Source),
     /// Read a value of this type from these bytes.
     Value { kind: TypeName, bytes: Vec<u8> },
 }
@@ -69,8 +70,9 @@ fn parser<'a>(alloc: Global) -> Result<Parser<'a>, AllocError>
 /// The command that the words are, which are those after the program's name.
 ///
 /// `Refused` has the text to print: that of `clap` where it refuses the words, or asks for its
-/// help, and `words` where it takes them and a word is none that it may be: settings other than
-/// `default`, a type that has no such name, or hex that is none. The call changes nothing.
+/// help, and `words` where it takes them and a word is none that it may be: a type that has no such
+/// name, or hex that is none. The settings are `default`, or else the path of a file, which is not
+/// read here. The call changes nothing.
 pub fn command_of(alloc: Global, words: &[&str]) -> Result<Command, WordsFault>
     ensures asked { IfOk result (AsksFor (map (λ w. w.now) words.entry.now)) }
     ensures refused { IfErr result (IsWordsFault (map (λ w. w.now) words.entry.now)) }
@@ -123,8 +125,12 @@ fn answer_in(alloc: Global, matches: &ArgMatches) -> Result<Command, WordsFault>
     ensures refused { IfErr result (RefusedBy (IsAnswerOf (first_value (found_of matches.now)))) }
 {
     match matches.get_str("settings") {
-        Some("default") => Ok(Command::Answer),
-        _ => Err(bad_word(alloc)),
+        Some("default") => Ok(Command::Answer(Source::Default)),
+        Some(path) => match String::from_str(alloc, path) {
+            Ok(path) => Ok(Command::Answer(Source::File(path))),
+            Err(_) => Err(WordsFault::NoMemory),
+        },
+        None => Err(bad_word(alloc)),
     }
 }
 

@@ -6,6 +6,7 @@ mod command;
 mod input;
 mod run;
 mod script;
+mod settings;
 mod stop;
 mod text;
 mod type_name;

@@ -1,6 +1,6 @@
 //! What the command does, over any reader and writers.
 
-ghost use Rattle.std.specs.Prelude.{◌≡◌, map, IfOk, IfErr, OnOk};
+ghost use Rattle.std.specs.Prelude.{◌≡◌, map, IfOk, IfErr, IfSome, OnOk};
 ghost use Rattle.std.specs.Io.KnownBytes.{Appends};
 ghost use Rattle.uadisc.specs.Run.{Done, IsStop, Runs};
 ghost use Rattle.uadisc.specs.Stop.{status_of, stop_text, IsQuiet};
@@ -9,9 +9,9 @@ use crate::answer::answer;
 use crate::command::{Command, command_of};
 use crate::stop::Stop;
 use crate::value::value;
-use std::alloc::Global;
 use std::io;
 use std::io::{Read, Write};
+use std::rt::Files;
 
 #[cfg(test)]
 mod tests;
@@ -21,13 +21,13 @@ mod tests;
 /// memory. What stopped the command is told on `errors`, where a failed write is passed over.
 pub fn run<R, I, O, E>(rt: &R, words: &[&str], input: &mut I, output: &mut O, errors: &mut E) -> u8
 where
-    R: AllocGlobal,
+    R: Files + AllocGlobal,
     I: Read,
     O: Write,
     E: Write,
     ensures { Runs (map (λ w. w.now) words.entry.now) (I.remaining input.old) (O.contents output.old) (O.contents output.new) (E.contents errors.old) (E.contents errors.new) result }
 {
-    match done(rt.alloc(), words, input, output) {
+    match done(rt, words, input, output) {
         Ok(status) => status,
         Err(stop) => told(&stop, errors),
     }
@@ -43,15 +43,14 @@ pub fn told<E: Write>(stop: &Stop, errors: &mut E) -> u8
 
 /// Tells what stopped the command. After an error a beginning of it may stand there.
 fn tell<E: Write>(stop: &Stop, errors: &mut E) -> io::Result<()>
-    ensures { OnOk result (Appends (E.contents errors.old) (E.contents errors.new) (stop_text stop.now)) }
+    ensures { OnOk result (IfSome (stop_text stop.now) (Appends (E.contents errors.old) (E.contents errors.new))) }
 {
     write!(errors, "{stop}")
 }
 
 /// Does what the words ask for.
-
-fn done<I: Read, O: Write>(
-    alloc: Global,
+fn done<R: Files + AllocGlobal, I: Read, O: Write>(
+    rt: &R,
     words: &[&str],
     input: &mut I,
     output: &mut O,
@@ -60,8 +59,9 @@ fn done<I: Read, O: Write>(
     ensures err { IfErr result (IsStop (map (λ w. w.now) words.entry.now) (I.remaining input.old)) }
     ensures quiet { IfErr result (λ stop. IsQuiet stop (O.contents output.old) (O.contents output.new)) }
 {
-    match command_of(alloc, words)? {
-        Command::Answer => answer(alloc, input, output),
-        Command::Value { kind, bytes } => value(alloc, kind, bytes.as_slice(), output),
+    let command = command_of(rt.alloc(), words)?;
+    match command {
+        Command::Answer(source) => answer(rt, &source, input, output),
+        Command::Value { kind, bytes } => value(rt.alloc(), kind, bytes.as_slice(), output),
     }
 }

@@ -1,8 +1,8 @@
 //! Why the command stops before it is done.
 
-ghost use Rattle.std.specs.Prelude.{◌≡◌, Some, OnOk, IfErr};
+ghost use Rattle.std.specs.Prelude.{◌≡◌, OnOk, IfErr};
 ghost use Rattle.std.specs.Io.KnownBytes.{Appends};
-ghost use Rattle.uadisc.specs.Stop.{status_of, stop_text, stop_of_words, stop_of_input, stop_of_script};
+ghost use Rattle.uadisc.specs.Stop.{status_of, stop_text, stop_of_words, stop_of_settings, stop_of_input, stop_of_script};
 ghost use Rattle.uadisc.specs.declared.stop.Stop.TheVariants.{NoMemory as OutOfMemory};
 
 use crate::command::WordsFault;
@@ -11,12 +11,15 @@ use crate::script::ScriptFault;
 use std::alloc::{AllocError, AllocFailed};
 use std::fmt;
 use std::io::Write;
+use ua_disco::SettingsFault;
 
 /// Why the command stops.
 #[derive(Debug, Drop)]
 pub enum Stop {
     /// The words are no command; this is the text to print.
     Words(String),
+    /// The settings are refused with this fault.
+    Settings(SettingsFault),
     /// The line of this number is none, the first line having 1.
     Line(u64),
     /// A read or a write failed.
@@ -31,7 +34,7 @@ impl Stop {
         ensures { result ≡ status_of self.now }
     {
         match self {
-            Stop::Line(_) => 1,
+            Stop::Settings(_) | Stop::Line(_) => 1,
             Stop::Words(_) => 2,
             Stop::File => 3,
             Stop::NoMemory => 4,
@@ -40,11 +43,12 @@ impl Stop {
 }
 
 impl fmt::Display for Stop {
-    ghost output = { λ stop. Some (stop_text stop) };
+    ghost output = { λ stop. stop_text stop };
 
     fn fmt<W: fmt::Write>(&self, f: &mut fmt::Formatter<W>) -> fmt::Result {
         match self {
             Stop::Words(text) => write!(f, "{text}"),
+            Stop::Settings(fault) => writeln!(f, "{fault}"),
             Stop::Line(number) => writeln!(f, "line {number}"),
             Stop::File => writeln!(f, "file"),
             Stop::NoMemory => writeln!(f, "memory"),
@@ -75,6 +79,17 @@ impl From<WordsFault> for Stop {
         match fault {
             WordsFault::Refused(text) => Stop::Words(text),
             WordsFault::NoMemory => Stop::NoMemory,
+        }
+    }
+}
+
+impl From<SettingsFault> for Stop {
+    ghost from_gives = { λ fault e. e ≡ stop_of_settings fault };
+
+    fn from(fault: SettingsFault) -> Stop {
+        match fault {
+            SettingsFault::NoMemory => Stop::NoMemory,
+            fault => Stop::Settings(fault),
         }
     }
 }

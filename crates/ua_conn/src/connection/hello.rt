@@ -3,8 +3,9 @@
 ghost use Rattle.std.specs.Prelude.{◌≡◌, Some, List, option_map};
 ghost use Rattle.ua_frame.specs.Hello.{hello_of, hello_rows};
 ghost use Rattle.ua_service.specs.declared.request.Request.{Request as Asked};
+ghost use Rattle.ua_disco.specs.Bounds.{IsLimits};
 ghost use Rattle.ua_conn.specs.Past.{agreed_by};
-ghost use Rattle.ua_conn.specs.Ranges.{AreLimits, IsBuffer};
+ghost use Rattle.ua_conn.specs.Ranges.{IsBuffer};
 ghost use Rattle.ua_conn.specs.Effects.{hello_effect, Does, Judges};
 
 use crate::agreed::Agreed;
@@ -16,7 +17,7 @@ use ua_frame::{Frame, Hello, Kind, Limits, negotiate};
 /// What the Hello that a frame is and the limits agree on.
 fn agree(alloc: Global, limits: &Limits, frame: &Frame) -> Result<Agreed, Fault>
     requires kind { frame.now.kind ≡ Kind.Hello }
-    requires ranges { AreLimits limits.now }
+    requires ranges { IsLimits limits.now }
     ensures { Judges (hello_rows (hello_of frame.now.fields)) (λ a. (option_map (agreed_by limits.now) (hello_of frame.now.fields) ≡ Some a) × IsBuffer a.ack.send) result }
 {
     let hello = Hello::read(alloc, frame)?;

@@ -1,6 +1,6 @@
 //! The parts of requests, and what is said to a whole one.
 
-ghost use Rattle.std.specs.Prelude.{◌≡◌, ◌<◌, ◌≤◌, ◌^◌, ◌++◌, length, false, is_ok, if◌then◌else◌, OnOk};
+ghost use Rattle.std.specs.Prelude.{◌≡◌, ◌<◌, ◌≤◌, ◌^◌, ◌++◌, length, false, is_ok, if◌then◌else◌};
 ghost use Rattle.ua_frame.specs.declared.kind.Kind.TheVariants as kinds;
 ghost use Rattle.ua_chunk.specs.Layout.{chunk_of};
 ghost use Rattle.ua_chunk.specs.Numbers.{number_after};
@@ -110,7 +110,7 @@ impl<'a> Connection<'a> {
         let Some(request) = gather(self.alloc, &mut self.half, &chunk)? else {
             return Ok(());
         };
-        let body = answer_body(self.alloc, &request, now)?;
+        let body = answer_body(self.alloc, self.settings, &request, now)?;
         asked.push(request)?;
         if let Some(agreed) = self.agreed {
             let head = Head {

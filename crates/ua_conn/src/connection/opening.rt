@@ -1,13 +1,9 @@
 //! Frames that open the channel, or renew its token.
 
-ghost use Rattle.std.specs.Prelude.{◌≡◌, ◌<◌, ◌≤◌, ◌^◌, ◌∷◌, [], ◌++◌, length, is_some, is_ok, Some, None, List, OnOk, OnErr, IfOk, IfErr, if◌then◌else◌};
-ghost use Rattle.ua_frame.specs.Layout.{fields_of};
-ghost use Rattle.ua_chunk.specs.Layout.{open_chunk_in, open_chunk_of};
+ghost use Rattle.std.specs.Prelude.{◌≡◌, ◌<◌, ◌≤◌, ◌^◌, ◌∷◌, [], ◌++◌, length, is_some, Some, None, List, IfOk, IfErr};
+ghost use Rattle.ua_chunk.specs.Layout.{open_chunk_of};
 ghost use Rattle.ua_chunk.specs.Assembly.{half_of};
-ghost use Rattle.ua_chunk.specs.Numbers.{number_after};
-ghost use Rattle.ua_chunk.specs.Written.{open_frame};
-ghost use Rattle.ua_channel.specs.Token.{next_token};
-ghost use Rattle.ua_channel.specs.Channel.{numbered, renewed};
+ghost use Rattle.ua_channel.specs.Channel.{numbered};
 ghost use Rattle.ua_channel.specs.Admission.{admit_open_rows};
 ghost use Rattle.ua_service.specs.ChannelMessages.{open_of};
 ghost use Rattle.ua_service.specs.declared.request.Request.{Request as Asked};
@@ -15,13 +11,13 @@ ghost use Rattle.ua_conn.specs.Answers.{opened_body};
 ghost use Rattle.ua_conn.specs.Opening.{asked_rows, Grants};
 ghost use Rattle.ua_conn.specs.Effects.{open_effect, Does, Judges};
 
-use crate::answers::header_at;
 use crate::connection::Connection;
 use crate::connection::admission::are_bytes;
 use crate::fault::Fault;
 use std::alloc::Global;
 use ua_channel::{Issued, ServerChannel};
 use ua_chunk::{Assembly, OpenChunk, Sequence, open_chunk, write_open};
+use ua_disco::response_header;
 use ua_frame::status::BAD_TCP_MESSAGE_TYPE_INVALID;
 use ua_frame::{Frame, Kind};
 use ua_service::{Body, OpenResponse, read_open};
@@ -97,7 +93,7 @@ fn opened_body(alloc: Global, channel: u32, granted: Granted, now: u64) -> Resul
     ensures { IfOk result (λ body. body.items ≡ opened_body granted.handle now channel (record { id = granted.token; issued = now; lifetime = granted.lifetime })) }
 {
     let response = OpenResponse {
-        header: header_at(alloc, now, granted.handle, GOOD),
+        header: response_header(alloc, now as i64, granted.handle, GOOD),
         server_protocol_version: VERSION,
         channel_id: channel,
         token_id: granted.token,

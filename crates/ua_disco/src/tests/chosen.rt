@@ -40,20 +40,45 @@ const NAMES: [(&[u8], &[u8]); 7] = [
     (b"\x01\0\0\0\x05\0\0\0de-DE", ENGLISH),
 ];
 
-fn named(rt: &impl Abort, alloc: Global, rows: &[(&[u8], &[u8])]) -> Result<(), Fail> {
+fn named(
+    rt: &impl Abort,
+    alloc: Global,
+    settings: &str,
+    rows: &[(&[u8], &[u8])],
+) -> Result<(), Fail> {
     for (locales, name) in rows {
         let request = asking(alloc, FIND, locales, NULL)?;
         let mut answer = joined(alloc, &[SERVERS_FOUND, b"\x01\0\0\0", BEFORE_NAME])?;
         answer.extend_from_slice(name)?;
         answer.extend_from_slice(BEHIND_NAME)?;
-        answers_at(rt, alloc, TWO_NAMES, 0, &request, &answer)?;
+        answers_at(rt, alloc, settings, 0, &request, &answer)?;
     }
     Ok(())
 }
 
 #[test]
 fn names_are_in_the_earliest_language_that_is_there(rt: HostRuntime) -> Result<(), Fail> {
-    named(&rt, rt.alloc(), &NAMES)
+    named(&rt, rt.alloc(), TWO_NAMES, &NAMES)
+}
+
+/// The second name is in no language.
+const WITHOUT_LOCALE: &str = r#"version = 1
+[application]
+uri = "urn:a"
+product_uri = "urn:p"
+discovery_urls = ["opc.tcp://localhost:4840"]
+names = [{ locale = "en", text = "Press" }, { text = "Presse" }]
+"#;
+
+/// A null locale is wanted, and an empty one.
+const NO_LOCALES: [(&[u8], &[u8]); 2] = [
+    (b"\x01\0\0\0\xFF\xFF\xFF\xFF", b"\x02\x06\0\0\0Presse"),
+    (b"\x01\0\0\0\0\0\0\0", ENGLISH),
+];
+
+#[test]
+fn a_null_locale_is_that_of_a_name_without_one(rt: HostRuntime) -> Result<(), Fail> {
+    named(&rt, rt.alloc(), WITHOUT_LOCALE, &NO_LOCALES)
 }
 
 const NO_SERVERS: &[u8] =

@@ -1,6 +1,6 @@
 use super::*;
-use std::io;
 use std::process::Abort;
+use std::{fs, io};
 
 const HELLO: &str =
     "48454C46 38000000 00000000 FFFF0000 FFFF0000 00000000 00000000 18000000 6F70632E7463703A2F2F6C6F63616C686F73743A34383430";
@@ -87,7 +87,7 @@ impl Read for Signs {
 }
 
 /// Runs the words on an input, and compares what is printed and the exit status.
-fn expect<R: AllocGlobal + Abort>(
+fn expect<R: Files + AllocGlobal + Abort>(
     rt: &R,
     words: &[&str],
     input: &str,
@@ -120,6 +120,104 @@ fn answers_each_form_of_line(rt: HostRuntime) {
         (TWO_HELLOS, 1, SECOND_REFUSED),
     ] {
         expect(&rt, &["answer", "default"], input, status, output, "");
+    }
+}
+
+/// Settings of a server that takes 8192 bytes, sends 16384, and takes messages of 65536 bytes and 9 chunks.
+const SMALL: &str = "version = 1
+[application]
+uri = \"urn:small\"
+names = [{ text = \"Small\" }]
+[limits]
+receive = 8192
+send = 16384
+max_message = 65536
+max_chunks = 9
+";
+
+const SMALL_ACKNOWLEDGED: &str =
+    "41434b461c0000000000000000200000004000000000010009000000\nend input-ended\n";
+
+#[test]
+fn answers_by_a_file(rt: HostRuntime) {
+    fs::write(&rt, "small.toml", SMALL).expect(&rt, "a file is written");
+    expect(
+        &rt,
+        &["answer", "small.toml"],
+        HELLO,
+        0,
+        SMALL_ACKNOWLEDGED,
+        "",
+    );
+    expect(&rt, &["answer", "small.toml"], "#\n4g", 1, "", "line 2\n");
+}
+
+/// The settings `default` with a second endpoint, whose mode is out of range.
+const SECOND_ENDPOINT: &str = "version = 1
+[application]
+uri = \"urn:a\"
+product_uri = \"urn:p\"
+discovery_urls = [\"opc.tcp://localhost:4840\"]
+[[application.names]]
+locale = \"en\"
+text = \"Press\"
+[[endpoint]]
+url = \"opc.tcp://localhost:4840\"
+[[endpoint.tokens]]
+id = \"0\"
+[[endpoint]]
+url = \"opc.tcp://localhost:4841\"
+mode = 4
+";
+
+/// Settings are refused before the input is judged.
+#[test]
+fn refuses_settings(rt: HostRuntime) {
+    for (text, errors) in [
+        ("version =", "settings 1\n"),
+        ("", "settings 2 version\n"),
+        ("version = \"1\"", "settings 3 version\n"),
+        ("version = 2", "settings 4 version\n"),
+        ("x = 1", "settings 5 x\n"),
+        (
+            "version = 1\n[application]\nuri = \"urn:a\"\nnames = [{ text = \"A\" }, { text = 7 }]\n",
+            "settings 3 application.names.1.text\n",
+        ),
+        (SECOND_ENDPOINT, "settings 4 endpoint.1.mode\n"),
+    ] {
+        fs::write(&rt, "refused.toml", text).expect(&rt, "a file is written");
+        for input in [HELLO, "4g"] {
+            expect(&rt, &["answer", "refused.toml"], input, 1, "", errors);
+        }
+    }
+    fs::write(&rt, "latin.toml", b"# \xE4\nversion = 1\n".as_slice()).expect(
+        &rt,
+        "a file is written",
+    );
+    expect(&rt, &["answer", "latin.toml"], HELLO, 1, "", "settings 1\n");
+}
+
+/// Settings are refused where the input can't be read either.
+#[test]
+fn refuses_settings_before_a_failed_read(rt: HostRuntime) {
+    fs::write(&rt, "empty.toml", "").expect(&rt, "a file is written");
+    let mut input = Signs {
+        left: 0,
+        fails: true,
+    };
+    let mut printed = Page::new(4096);
+    let mut told = Page::new(4096);
+    let words = ["answer", "empty.toml"];
+    assert_eq!(rt; run(&rt, &words, &mut input, &mut printed, &mut told), 1);
+    assert_eq!(rt; printed.text(), b"".as_slice());
+    assert_eq!(rt; told.text(), b"settings 2 version\n".as_slice());
+}
+
+/// A file that is absent, a folder, or none that can have a name.
+#[test]
+fn tells_files_that_cannot_be_read(rt: HostRuntime) {
+    for path in ["absent.toml", "Default", "", ".", "a\0b"] {
+        expect(&rt, &["answer", path], "4g", 3, "", "file\n");
     }
 }
 
@@ -325,7 +423,7 @@ fn reads_each_type_that_holds_others(rt: HostRuntime) {
 }
 
 /// Runs words that clap refuses, and looks for its text and for nothing else.
-fn expect_refusal<R: AllocGlobal + Abort>(rt: &R, words: &[&str]) {
+fn expect_refusal<R: Files + AllocGlobal + Abort>(rt: &R, words: &[&str]) {
     let mut input = b"4g".as_slice();
     let mut printed = Page::new(4096);
     let mut told = Page::new(4096);
@@ -347,9 +445,6 @@ fn refuses_words(rt: HostRuntime) {
         ("Boolean", "0 0"),
     ] {
         expect(&rt, &["value", kind, digits], "4g", 2, "", "words\n");
-    }
-    for settings in ["Default", "", "settings.toml"] {
-        expect(&rt, &["answer", settings], "4g", 2, "", "words\n");
     }
     for word in [
         "answer",
@@ -399,12 +494,13 @@ fn tells_failed_reads_and_writes(rt: HostRuntime) {
         expect_failed_write(&rt, &answer, room);
         expect_failed_write(&rt, &["value", "Boolean", "FF"], room);
     }
-    expect_untold(&rt, "default", 1);
-    expect_untold(&rt, "other", 2);
+    expect_untold(&rt, &["answer", "default"], 1);
+    expect_untold(&rt, &["value", "Other", "00"], 2);
+    expect_untold(&rt, &["answer", "absent.toml"], 3);
 }
 
 /// Runs words whose output has not enough room.
-fn expect_failed_write<R: AllocGlobal + Abort>(rt: &R, words: &[&str], room: usize) {
+fn expect_failed_write<R: Files + AllocGlobal + Abort>(rt: &R, words: &[&str], room: usize) {
     let mut input = HELLO.as_bytes();
     let mut printed = Page::new(room);
     let mut told = Page::new(4096);
@@ -414,25 +510,16 @@ fn expect_failed_write<R: AllocGlobal + Abort>(rt: &R, words: &[&str], room: usi
 }
 
 /// Runs a command that fails with the status, where the fault can't be told whole.
-fn expect_untold<R: AllocGlobal + Abort>(rt: &R, settings: &str, status: u8) {
+fn expect_untold<R: Files + AllocGlobal + Abort>(rt: &R, words: &[&str], status: u8) {
     let mut input = b"4g".as_slice();
     let mut printed = Page::new(0);
     let mut told = Page::new(3);
-    assert_eq!(rt;
-        run(
-            rt,
-            &["answer", settings],
-            &mut input,
-            &mut printed,
-            &mut told
-        ),
-        status
-    );
+    assert_eq!(rt; run(rt, words, &mut input, &mut printed, &mut told), status);
     assert_eq!(rt; told.text().len(), 3);
 }
 
 /// Runs the words to their full answer, or to want of memory with nothing printed.
-fn expect_or_no_memory<R: AllocGlobal + Abort>(
+fn expect_or_no_memory<R: Files + AllocGlobal + Abort>(
     rt: &R,
     words: &[&str],
     input: &str,
@@ -486,8 +573,13 @@ fn prints_a_guid_or_no_memory(rt: HostRuntime) {
 }
 
 #[test]
+fn tells_an_absent_file_or_no_memory(rt: HostRuntime) {
+    expect_or_no_memory(&rt, &["answer", "absent.toml"], "", 3, "", "file\n");
+}
+
+#[test]
 fn refuses_words_or_no_memory(rt: HostRuntime) {
-    expect_or_no_memory(&rt, &["answer", "other"], "", 2, "", "words\n");
+    expect_or_no_memory(&rt, &["value", "Other", "00"], "", 2, "", "words\n");
 }
 
 /// A writer over memory whose growth is refused is a failed write, with nothing written.

@@ -7,12 +7,12 @@ use Rattle.ua_conn.proofs.conversation.answer_all.Goals as goal
 
 pub pieces-init : goal.pieces-init
 pieces-init c =
-    let site : Site = record { limits = c.args.settings.now; channel = c.args.channel_id } in
+    let site : Site = record { settings = c.args.settings.now; channel = c.args.channel_id } in
     none_yet site c.new-reply.result.items c.new-handed.result.items c.in_ok-server.server c.new-reply.ensures.items c.new-handed.ensures.items c.in_ok-server.ensures
 
 pub pieces-preserved : goal.pieces-preserved
 pieces-preserved c =
-    let site : Site = record { limits = c.args.settings.now; channel = c.args.channel_id } in
+    let site : Site = record { settings = c.args.settings.now; channel = c.args.channel_id } in
     let none : Entry = (pos 0, record { ref_ptr = (0, 0); now = [] }) in
     let fits : SFits w64 (get_or c.args.pieces.now c.pieces.now-index none).0 = search rules in
     let fed = simp to_z-of_z at (rw c.in_default-end.is at c.in-Ok.ensures.fed) in
@@ -21,7 +21,7 @@ pieces-preserved c =
 
 pub returns-in-Some-clause-reply : goal.returns-in-Some-clause-reply
 returns-in-Some-clause-reply c =
-    let site : Site = record { limits = c.args.settings.now; channel = c.args.channel_id } in
+    let site : Site = record { settings = c.args.settings.now; channel = c.args.channel_id } in
     let none : Entry = (pos 0, record { ref_ptr = (0, 0); now = [] }) in
     let fits : SFits w64 (get_or c.args.pieces.now c.pieces.now-index none).0 = search rules in
     let fed = simp to_z-of_z at (rw c.in-Some.is at c.in-Ok.ensures.fed) in
@@ -30,7 +30,7 @@ returns-in-Some-clause-reply c =
 
 pub returns-in-Some-clause-handed : goal.returns-in-Some-clause-handed
 returns-in-Some-clause-handed c =
-    let site : Site = record { limits = c.args.settings.now; channel = c.args.channel_id } in
+    let site : Site = record { settings = c.args.settings.now; channel = c.args.channel_id } in
     let none : Entry = (pos 0, record { ref_ptr = (0, 0); now = [] }) in
     let fits : SFits w64 (get_or c.args.pieces.now c.pieces.now-index none).0 = search rules in
     let fed = simp to_z-of_z at (rw c.in-Some.is at c.in-Ok.ensures.fed) in
@@ -39,7 +39,7 @@ returns-in-Some-clause-handed c =
 
 pub returns-in-Some-clause-end : goal.returns-in-Some-clause-end
 returns-in-Some-clause-end c =
-    let site : Site = record { limits = c.args.settings.now; channel = c.args.channel_id } in
+    let site : Site = record { settings = c.args.settings.now; channel = c.args.channel_id } in
     let none : Entry = (pos 0, record { ref_ptr = (0, 0); now = [] }) in
     let fits : SFits w64 (get_or c.args.pieces.now c.pieces.now-index none).0 = search rules in
     let fed = simp to_z-of_z at (rw c.in-Some.is at c.in-Ok.ensures.fed) in
@@ -48,5 +48,5 @@ returns-in-Some-clause-end c =
 
 pub returns-clause-end : goal.returns-clause-end
 returns-clause-end c =
-    let site : Site = record { limits = c.args.settings.now; channel = c.args.channel_id } in
+    let site : Site = record { settings = c.args.settings.now; channel = c.args.channel_id } in
     c.end_of_input-end.ensures ∙ (ends site c.args.pieces.now c.pieces.now-index c.pieces.reply.items c.pieces.handed.items c.pieces.server c.pieces-test.false c.pieces.invariant).ending

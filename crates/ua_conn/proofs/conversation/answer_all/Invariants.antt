@@ -4,4 +4,4 @@ use Rattle.ua_conn.specs.Feeding.{Answering}
 use Rattle.ua_conn.proofs.conversation.answer_all.Given as goal
 
 abbrev pub invariant-pieces : goal.invariant-pieces
-invariant-pieces l = Answering (record { limits = l.settings; channel = l.channel_id }) (pieces_of (take l.now-index l.pieces)) l.reply.items l.handed.items l.server
+invariant-pieces l = Answering (record { settings = l.settings; channel = l.channel_id }) (pieces_of (take l.now-index l.pieces)) l.reply.items l.handed.items l.server

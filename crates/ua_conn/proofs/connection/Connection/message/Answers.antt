@@ -22,7 +22,7 @@ returns-clause-does c =
     let id = chunk.chunk.request_id in
     let out = c.args.out.now.items in
     let asked = c.args.asked.now.items in
-    let body = c.in_ok-body.ensures site in
+    let body = c.in_ok-body.ensures in
     elim c.match-self.branch [
       | in-Some-agreed+in_ok-say w ↦
           let agreed = w.in-Some-agreed.agreed in

@@ -1,0 +1,59 @@
+//! The settings by which the command `answer` answers.
+
+ghost use Rattle.std.specs.Prelude.{◌≡◌, Ok, IfOk, IfErr};
+ghost use Rattle.ua_disco.specs.Tables.{settings_of as given};
+ghost use Rattle.uadisc.specs.Settings.{IsSettings};
+ghost use Rattle.uadisc.specs.Stop.{IsFileStop, IsTextStop, IsSettingsStop};
+
+use crate::input::read_whole;
+use crate::stop::Stop;
+use std::alloc::Global;
+use std::fs::File;
+use std::io::ErrorKind;
+use std::rt::Files;
+use ua_disco::{DEFAULT, Settings};
+
+/// Where settings come from.
+#[derive(Debug, Drop)]
+pub enum Source {
+    /// The built-in settings.
+    Default,
+    /// The file at this path.
+    File(String),
+}
+
+/// The bytes of the file at a path, by at most `MOST_READS` reads.
+fn read_file<R: Files + AllocGlobal>(rt: &R, path: &str) -> Result<Vec<u8>, Stop>
+    ensures { IfErr result IsFileStop }
+{
+    match File::open(rt, path) {
+        Ok(mut file) => Ok(read_whole(rt.alloc(), &mut file)?),
+        Err(error) if error.kind() == ErrorKind::OutOfMemory => Err(Stop::NoMemory),
+        Err(_) => Err(Stop::File),
+    }
+}
+
+/// The settings that a text in TOML gives.
+fn settings_of(alloc: Global, text: &[u8]) -> Result<Settings, Stop>
+    ensures ok { IfOk result (λ settings. given text.now ≡ Ok settings) }
+    ensures err { IfErr result (IsTextStop text.now) }
+{
+    Ok(Settings::from_toml(alloc, text)?)
+}
+
+/// The settings of a source.
+///
+/// `File` where its file can't be read to its end, then `Settings` with the first fault of its
+/// text, and `NoMemory` where a growth was refused.
+pub fn settings_in<R: Files + AllocGlobal>(rt: &R, source: &Source) -> Result<Settings, Stop>
+    ensures ok { IfOk result (IsSettings source.now) }
+    ensures err { IfErr result (IsSettingsStop source.now) }
+{
+    match source {
+        Source::Default => settings_of(rt.alloc(), DEFAULT.as_bytes()),
+        Source::File(path) => {
+            let text = read_file(rt, path.as_str())?;
+            settings_of(rt.alloc(), text.as_slice())
+        }
+    }
+}
