@@ -719,26 +719,44 @@ fn answers_name_the_newest_token_that_was_used(rt: HostRuntime) -> Result<(), Fa
     Ok(())
 }
 
+/// How many requests a piece brings, and its end; or why it is not taken.
+fn fed(
+    server: &mut Server,
+    piece: &[u8],
+    out: &mut Vec<u8>,
+) -> Result<(usize, Option<End>), FeedFault> {
+    let fed = server.feed(0, piece, out)?;
+    Ok((fed.requests.len(), fed.end))
+}
+
+/// Feeds a server with frames that are answered so, and with two closes.
+fn closes(
+    rt: &impl Abort,
+    alloc: Global,
+    settings: &Settings,
+    input: &[u8],
+    said: &[u8],
+) -> Result<(), AllocError> {
+    let mut server = Server::new(alloc, settings, 1)?;
+    let mut out = Vec::new(alloc);
+    let first = fed(&mut server, input, &mut out);
+    assert_eq!(rt; first, Ok((1, None)));
+    let second = fed(&mut server, CLOSE_REQUEST, &mut out);
+    assert_eq!(rt; second, Ok((0, Some(End::Closed))));
+    assert_eq!(rt; out.as_slice(), said);
+    let third = fed(&mut server, CLOSE_REQUEST, &mut out);
+    assert_eq!(rt; third, Err(FeedFault::Ended));
+    assert_eq!(rt; out.as_slice(), said);
+    Ok(())
+}
+
 #[test]
 fn server_takes_no_more_after_an_end(rt: HostRuntime) -> Result<(), Fail> {
     let alloc = rt.alloc();
-    let settings = settings_of(alloc, DEFAULT)?;
-    let mut server = Server::new(alloc, &settings, 1)?;
-    let mut out = Vec::new(alloc);
     let input = joined(alloc, &[HELLO, OPEN_REQUEST, OTHER_REQUEST])?;
-    let fed = server
-        .feed(0, &input, &mut out)
-        .expect(&rt, "frames in order");
-    assert_eq!(&rt; (fed.requests.len(), fed.end), (1, None));
-    let fed = server
-        .feed(0, CLOSE_REQUEST, &mut out)
-        .expect(&rt, "a close request");
-    assert_eq!(&rt; (fed.requests.len(), fed.end), (0, Some(End::Closed)));
     let said = joined(alloc, &[ACKNOWLEDGE, OPEN_RESPONSE, FAULT_RESPONSE])?;
-    assert_eq!(&rt; out.as_slice(), said.as_slice());
-    let fault = server.feed(1, CLOSE_REQUEST, &mut out).err();
-    assert_eq!(&rt; fault, Some(FeedFault::Ended));
-    assert_eq!(&rt; out.as_slice(), said.as_slice());
+    let settings = settings_of(alloc, DEFAULT)?;
+    closes(&rt, alloc, &settings, &input, &said)?;
     Ok(())
 }
 
