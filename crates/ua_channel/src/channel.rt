@@ -1,6 +1,6 @@
 //! The server's channel.
 
-ghost use Rattle.std.specs.Prelude.{◌≡◌, ◌<◌, ◌^◌, ◌==◌, length, not, max, Ok, Err, Some, None, IfOk, IfErr, OnOk, OnErr};
+ghost use Rattle.std.specs.Prelude.{◌≡◌, ◌<◌, ◌==◌, length, not, max, Ok, Err, Some, None, IfOk, IfErr, OnOk, OnErr};
 ghost use Rattle.ua_frame.specs.Rows.{first_row};
 ghost use Rattle.ua_frame.specs.Streams.{moment_of};
 ghost use Rattle.ua_channel.specs.Token.{next_token};

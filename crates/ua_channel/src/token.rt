@@ -1,6 +1,6 @@
 //! Tokens and their lifetimes. OPC 10000-4, 5.6.2.
 
-ghost use Rattle.std.specs.Prelude.{◌≡◌, ◌≤◌, ◌<◌, ◌^◌};
+ghost use Rattle.std.specs.Prelude.{◌≡◌, ◌<◌};
 ghost use Rattle.ua_channel.specs.Token.{revised, is_alive};
 
 /// A token that a channel issued.

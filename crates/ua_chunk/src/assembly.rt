@@ -1,6 +1,6 @@
 //! Messages put together from their parts.
 
-ghost use Rattle.std.specs.Prelude.{◌≡◌, length, false, is_ok, Some, None, IfOk, OnOk, IfErr, Err, if◌then◌else◌};
+ghost use Rattle.std.specs.Prelude.{◌≡◌, length, true, false, is_ok, Some, None, IfOk, OnOk, IfErr, Err, if◌then◌else◌};
 ghost use Rattle.ua_frame.specs.declared.kind.Kind.TheVariants.{Message};
 ghost use Rattle.ua_chunk.specs.Half.{id_of, body_of};
 ghost use Rattle.ua_chunk.specs.Assembly.{gathered_none, gathered_after, half_of, part_fault, added_by, is_whole, RowSays};
@@ -72,13 +72,14 @@ impl Assembly {
     /// An assembly without parts, for messages of at most `max_message` bytes in at most `max_chunks` parts. These
     /// are the limits of the end that receives; a 0 is no special one. OPC 10000-6, 7.1.2.3 and 7.1.2.4.
     ///
-    /// No memory is taken yet.
+    /// It is always `Ok`: no memory is taken yet.
     pub fn with_capacity(
         alloc: Global,
         max_message: u32,
         max_chunks: u32,
     ) -> Result<Assembly, NoMemory>
-        ensures { IfOk result (λ a. a ≡ gathered_none max_message max_chunks) }
+        ensures made { IfOk result (λ a. a ≡ gathered_none max_message max_chunks) }
+        ensures always { is_ok result ≡ true }
     {
         Ok(Assembly {
             max_message,

@@ -1,6 +1,6 @@
 //! The fields at the front of bytes, lent from them.
 
-ghost use Rattle.std.specs.Prelude.{◌≡◌, ◌≤◌, length, option_map, option_copied, IfSome};
+ghost use Rattle.std.specs.Prelude.{◌≡◌, length, option_map, option_copied};
 ghost use Rattle.std.specs.Int.{w32};
 ghost use Rattle.ua_value.specs.Number.{unsigned};
 ghost use Rattle.ua_value.specs.Text.{string, byte_string};

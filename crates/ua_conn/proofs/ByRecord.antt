@@ -1,9 +1,10 @@
 -- What a piece brings to a server that goes on depends on what is held alone.
 use Rattle.std.proofs.Common.{◌≡◌, max, List, [], ◌∷◌, ◌++◌, map, None, refl, sym, ap, subst, ◌∙◌}
-use Rattle.std.proofs.lemmas.List.{append-nil, map-append}
-use Rattle.ua_frame.specs.Streams.{Piece, plain, timed, latest, at, cuts_of, rest_of}
-use Rattle.ua_frame.specs.Layout.{Frame, frame_by, frames_of}
-use Rattle.ua_frame.specs.StreamLaws.{framed, framed_more, timed_more, latest_more}
+use Rattle.std.proofs.lemmas.List.{append-nil}
+use Rattle.ua_frame.specs.Streams.{Piece, plain, timed, latest, at, rest_of}
+use Rattle.ua_frame.specs.Layout.{Frame, frames_of}
+use Rattle.ua_frame.specs.StreamLaws.{latest_more}
+use Rattle.ua_frame.specs.MomentLaws.{one_piece_more}
 use Rattle.ua_chunk.specs.Numbers.{number_after}
 use Rattle.ua_conn.specs.Site.{Site}
 use Rattle.ua_conn.specs.Past.{Past, known}
@@ -12,7 +13,6 @@ use Rattle.ua_conn.specs.Held.{newest_first, held, stop, GoesOn, Gains, ByRecord
 use Rattle.ua_conn.specs.Machine.{run, next_after, gain}
 use Rattle.ua_conn.specs.declared.outcome.End.{End}
 use Rattle.ua_conn.specs.declared.outcome.End.TheVariants.{Closed, InputEnded, Truncated, Refused, LinkFailed, TurnsSpent, NoMemory}
-use Rattle.ua_conn.proofs.Retimed.{rest_retimed}
 use Rattle.ua_conn.proofs.Numbers.{all_numbers, numbered_append, spelled_append, spelled_is_next}
 use Rattle.ua_conn.proofs.Runs.{run_is, reading_more}
 
@@ -29,25 +29,13 @@ none_fails LinkFailed h = refl
 none_fails TurnsSpent h = refl
 none_fails NoMemory h = refl
 
--- what the frames and the rest are after one more piece
-pub later_frames : (ps : List Piece) (x : Piece) →
-    (let s = map (at (max (latest ps) x.moment)) (plain (rest_of (timed ps)) ++ x.bytes) in
-    (frames_of (timed (ps ++ x ∷ [])) ≡ frames_of (timed ps) ++ frames_of s) × (plain (rest_of (timed (ps ++ x ∷ []))) ≡ plain (rest_of s)))
-later_frames ps x =
-    let t = map (at (max (latest ps) x.moment)) x.bytes in
-    let more = framed_more (timed ps) t in
-    let again = rest_retimed (rest_of (timed ps)) (max (latest ps) x.moment) x.bytes (framed (timed ps)).partial in (
-      ap frames_of (timed_more 0 ps x) ∙ ap (map frame_by) more.0 ∙ map-append frame_by (cuts_of (timed ps)) _ ∙ ap (λ l. frames_of (timed ps) ++ l) again.0,
-      ap (λ s. plain (rest_of s)) (timed_more 0 ps x) ∙ ap plain more.1 ∙ again.1,
-    )
-
--- the same of the reading
+-- what the reading is after one more piece
 pub later_reading : (site : Site) (ps : List Piece) (x : Piece) → GoesOn site ps →
     (let s = map (at (max (latest ps) x.moment)) (plain (rest_of (timed ps)) ++ x.bytes) in
     reading_of site (timed (ps ++ x ∷ [])) ≡ reading site (newest_first (frames_of (timed ps)) []) (frames_of s) (plain (rest_of s)))
 later_reading site ps x h =
     let s = map (at (max (latest ps) x.moment)) (plain (rest_of (timed ps)) ++ x.bytes) in
-    let later = later_frames ps x in
+    let later = one_piece_more ps x in
     (λ i. reading site [] (later.0 i) (later.1 i))
     ∙ reading_more site [] (frames_of (timed ps)) (frames_of s) (plain (rest_of (timed ps))) (plain (rest_of s)) h
 
@@ -73,14 +61,14 @@ gained site ps x h =
       after = λ e.
           (let goes : stop R.ending ≡ None = ap stop now.ending ∙ e in
           let frames : newest_first (frames_of (timed (ps ++ x ∷ []))) [] ≡ newest_first (frames_of s) past =
-          ap (λ fs. newest_first fs []) (later_frames ps x).0 ∙ newest_append (frames_of (timed ps)) (frames_of s) [] in
+          ap (λ fs. newest_first fs []) (one_piece_more ps x).0 ∙ newest_append (frames_of (timed ps)) (frames_of s) [] in
           let told : replies site (newest_first (frames_of s) past) ≡ replies site past ++ r.replies =
           ap (replies site) (sym (now.goes_on goes)) ∙ sym (append-nil _) ∙ ap (λ l. replies site R.past ++ l) (sym (none_fails R.ending goes)) ∙ now.replied in
           let numbers : number_after 1 (numbered_after 0 (replies site (newest_first (frames_of (timed (ps ++ x ∷ []))) []))) ≡ next_after (number_after 1 (numbered_after 0 (replies site past))) r.replies =
           ap (λ p. number_after 1 (numbered_after 0 (replies site p))) frames ∙ ap (λ rs. number_after 1 (numbered_after 0 rs)) told
           ∙ ap (number_after 1) (numbered_append 0 (replies site past) r.replies) ∙ all_numbers (numbered_after 0 (replies site past)) r.replies in
           let seen : known site (newest_first (frames_of (timed (ps ++ x ∷ []))) []) ≡ r.known = ap (known site) frames ∙ now.known goes in
-          λ i. record { known = seen i; next = numbers i; moment = latest_more 0 ps x i; rest = (later_frames ps x).1 i });
+          λ i. record { known = seen i; next = numbers i; moment = latest_more 0 ps x i; rest = (one_piece_more ps x).1 i });
     }
 
 pub by_record : ByRecord

@@ -1,6 +1,5 @@
 pub mod Step
 pub mod Runs
-pub mod Retimed
 pub mod Numbers
 pub mod ByRecord
 pub mod Stopped

@@ -18,13 +18,12 @@ use Rattle.ua_frame.specs.declared.hello.Hello.{Hello}
 use Rattle.ua_chunk.specs.Layout.{OpenChunk, open_header, open_chunk_of, policy_none}
 use Rattle.ua_service.specs.declared.channel.OpenRequest.{OpenRequest}
 use Rattle.ua_service.specs.Message.{message}
-use Rattle.ua_service.specs.Headers.{request_header}
+use Rattle.ua_service.specs.Headers.{request_header, no_object}
 use Rattle.ua_service.specs.Channel.{open_request}
 use Rattle.ua_service.specs.ChannelMessages.{open_of}
 use Rattle.ua_channel.specs.Token.{newest_id, two_newest}
 use Rattle.ua_channel.specs.Admission.{follows_last, is_text}
 use Rattle.ua_conn.specs.Site.{Site}
-use Rattle.ua_disco.specs.Answers.{no_object}
 use Rattle.ua_conn.specs.Past.{known, has_number, is_open, number_of, hello_in, open_in, tokens_by}
 use Rattle.ua_conn.specs.Legal.{IsWhole, HasRoom, IsHello, IsOpening, Opens}
 use Rattle.ua_conn.proofs.Vectors.{hello, open_first, open_body}

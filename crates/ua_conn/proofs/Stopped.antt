@@ -1,6 +1,7 @@
 -- Once a stream has a fault or a CLO, what comes later changes nothing.
 use Rattle.std.proofs.Common.{◌≡◌, ℕ, ◌<◌, ◌≤◌, max, Bool, true, false, cond, List, [], ◌∷◌, ◌++◌, map, take, length, Option, Some, None, refl, sym, ap, subst, ◌∙◌, arith, append_assoc, ◌⊎◌, inl, inr}
 use Rattle.std.proofs.lemmas.List.{map-append}
+use Rattle.std.proofs.lemmas.Bool.{cases_lt}
 use Rattle.ua_frame.specs.Streams.{Piece, TimedByte, at, plain, size_of, IsFrame, cuts_of, rest_of, timed, timed_since, latest_since}
 use Rattle.ua_frame.specs.StreamLaws.{framed_more, framed_stop, frame_size, front_is_frame, plain_take, length_plain}
 use Rattle.ua_frame.specs.Layout.{Frame, last_moment, frame_by, frames_of, kind_of, flag_of}
@@ -15,7 +16,6 @@ use Rattle.ua_conn.specs.Held.{stop}
 use Rattle.ua_conn.specs.Whole.{StaysStopped}
 use Rattle.ua_conn.specs.declared.outcome.End.{End}
 use Rattle.ua_conn.specs.declared.outcome.End.TheVariants.{Closed, Refused}
-use Rattle.ua_conn.proofs.Retimed.{nat_le_or}
 
 -- the pieces behind ps, as they are timed
 timed_append : (since : ℕ) (ps qs : List Piece) → timed_since since (ps ++ qs) ≡ timed_since since ps ++ timed_since (latest_since since ps) qs
@@ -71,7 +71,7 @@ reading_refuses site past f fs rest status h = refuses_cases (fault_at site (kno
 
 -- what a bad header brings, whether the frame is whole or not
 bad_reading : (site : Site) (past : Past) (s : List TimedByte) (status : ℕ) → fault_in_rest (known site past) (plain s) ≡ Some status → reading site past (frames_of s) (plain (rest_of s)) ≡ record { past = past; ending = Refused status }
-bad_reading site past s status h = by_sizes (nat_le_or 8 (size_of (plain s))) (nat_le_or (size_of (plain s)) (length (plain s)))
+bad_reading site past s status h = by_sizes (cases_lt (size_of (plain s)) 8) (cases_lt (length (plain s)) (size_of (plain s)))
   where
     one : 8 ≤ size_of (plain s) → size_of (plain s) ≤ length (plain s) → reading site past (frames_of s) (plain (rest_of s)) ≡ record { past = past; ending = Refused status }
     one low high =
@@ -90,10 +90,10 @@ bad_reading site past s status h = by_sizes (nat_le_or 8 (size_of (plain s))) (n
     size_at : (n : ℕ) → n ≤ length s → IsFrame (plain (take n s)) → (8 ≤ n) × (size_of (plain s) ≡ n)
     size_at n le is = frame_size n (plain s) (omega (arith, le, length_plain s)) (subst IsFrame (plain_take n s) is)
 
-    by_sizes : (8 ≤ size_of (plain s)) ⊎ (size_of (plain s) < 8) → (size_of (plain s) ≤ length (plain s)) ⊎ (length (plain s) < size_of (plain s)) → reading site past (frames_of s) (plain (rest_of s)) ≡ record { past = past; ending = Refused status }
-    by_sizes (inl low) (inl high) = one low high
-    by_sizes (inr small) b = none (λ n le is. (let z = size_at n le is in omega (arith, small, z.0, z.1)))
-    by_sizes (inl low) (inr long) = none (λ n le is. (let z = size_at n le is in omega (arith, long, le, length_plain s, z.1)))
+    by_sizes : (size_of (plain s) < 8) ⊎ (8 ≤ size_of (plain s)) → (length (plain s) < size_of (plain s)) ⊎ (size_of (plain s) ≤ length (plain s)) → reading site past (frames_of s) (plain (rest_of s)) ≡ record { past = past; ending = Refused status }
+    by_sizes (inr low) (inr high) = one low high
+    by_sizes (inl small) b = none (λ n le is. (let z = size_at n le is in omega (arith, small, z.0, z.1)))
+    by_sizes (inr low) (inl long) = none (λ n le is. (let z = size_at n le is in omega (arith, long, le, length_plain s, z.1)))
 
 pub stays : StaysStopped
 stays site ps qs e h =

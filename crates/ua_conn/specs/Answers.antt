@@ -3,9 +3,10 @@ use Rattle.std.specs.Prelude.{ℕ, pos, List, None}
 use Rattle.ua_service.specs.declared.channel.OpenResponse.{OpenResponse}
 use Rattle.ua_service.specs.declared.request.Request.{Request}
 use Rattle.ua_service.specs.ChannelMessages.{open_response_message}
+use Rattle.ua_service.specs.Headers.{response_header_at}
 use Rattle.ua_service.specs.Responses.{canon_response}
 use Rattle.ua_channel.specs.declared.token.Token.{Token}
-use Rattle.ua_disco.specs.Answers.{answer_of, response_header_at}
+use Rattle.ua_disco.specs.Answers.{answer_of}
 use Rattle.ua_disco.specs.Configuration.{Configuration}
 
 -- the discovery answer, or a fault

@@ -1,13 +1,8 @@
 -- What a server says to a request. OPC 10000-4 5.5.2, 5.5.4, 7.33 to 7.35.
-use Rattle.std.specs.Prelude.{ℕ, ℤ, List, [], ◌∷◌, Option, Some, None, map}
+use Rattle.std.specs.Prelude.{ℕ, ℤ, List, [], ◌∷◌, Option, Some, map}
 use Rattle.std.specs.List.{filter}
 use Rattle.ua_value.specs.declared.localized.LocalizedText.{LocalizedText}
-use Rattle.ua_value.specs.Node.{two_byte}
-use Rattle.ua_variant.specs.declared.extension.ExtensionObject.{ExtensionObject}
-use Rattle.ua_variant.specs.declared.extension.ExtensionBody.TheVariants as extensions
-use Rattle.ua_variant.specs.Diagnostic.{Diagnostic, plain}
 use Rattle.ua_service.specs.declared.headers.RequestHeader.{RequestHeader}
-use Rattle.ua_service.specs.declared.headers.ResponseHeader.{ResponseHeader}
 use Rattle.ua_service.specs.declared.headers.ServiceFault.{ServiceFault}
 use Rattle.ua_service.specs.declared.application.ApplicationDescription.{ApplicationDescription}
 use Rattle.ua_service.specs.declared.endpoint.EndpointDescription.{EndpointDescription}
@@ -19,29 +14,12 @@ use Rattle.ua_service.specs.declared.request.Request.{Request}
 use Rattle.ua_service.specs.declared.request.Request.TheVariants as requests
 use Rattle.ua_service.specs.declared.response.Response.{Response}
 use Rattle.ua_service.specs.declared.response.Response.TheVariants as responses
+use Rattle.ua_service.specs.Headers.{response_header_at}
 use Rattle.ua_disco.specs.declared.application.Application.{Application}
 use Rattle.ua_disco.specs.declared.endpoint.Endpoint.{Endpoint}
 use Rattle.ua_disco.specs.Choosing.{is_asked}
 use Rattle.ua_disco.specs.Names.{name_for}
 use Rattle.ua_disco.specs.Configuration.{Configuration}
-
--- the null id, without a body
-abbrev pub no_object : ExtensionObject
-no_object = record { type_id = two_byte 0; body = extensions.None }
-
-abbrev pub no_diagnostics : Diagnostic
-no_diagnostics = plain (record { symbolic_id = None; namespace_uri = None; locale = None; localized_text = None; additional_info = None; inner_status = None })
-
--- the moment, the handle of the request, the result, and nothing else
-abbrev pub response_header_at : ℤ → ℕ → ℕ → ResponseHeader
-response_header_at now handle status = record {
-  timestamp = record { 0 = now };
-  request_handle = handle;
-  service_result = record { 0 = status };
-  service_diagnostics = no_diagnostics;
-  string_table = None;
-  additional_header = no_object;
-}
 
 -- an application under one of its names
 abbrev pub described : Application → LocalizedText → ApplicationDescription

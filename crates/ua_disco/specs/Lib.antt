@@ -5,5 +5,6 @@ pub mod Configuration
 pub mod Faults
 pub mod Names
 pub mod Reading
+pub mod ReadingLaws
 pub mod Settings
 pub mod Tables

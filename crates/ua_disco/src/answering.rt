@@ -6,12 +6,11 @@ ghost use Rattle.ua_disco.specs.Answers.{answer_of, servers_found, endpoints_fou
 
 use crate::arrays::array_of;
 use crate::choosing::asks_for;
-use crate::header::response_header;
 use crate::settings::Settings;
 use std::alloc::Global;
 use ua_service::{
     ApplicationDescription, EndpointDescription, FindServersRequest, FindServersResponse,
-    GetEndpointsRequest, GetEndpointsResponse, Request, Response, ServiceFault,
+    GetEndpointsRequest, GetEndpointsResponse, Request, Response, ServiceFault, response_header,
 };
 use ua_value::NoMemory;
 

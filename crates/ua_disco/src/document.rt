@@ -1,6 +1,5 @@
 //! Reads a document of settings.
 
-ghost use Rattle.std.specs.Prelude.{◌≡◌};
 ghost use Rattle.toml.specs.View.{table_view};
 ghost use Rattle.ua_disco.specs.Faults.{Gives};
 ghost use Rattle.ua_disco.specs.Tables.{body_of, table_settings, settings_of};

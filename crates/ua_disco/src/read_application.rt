@@ -1,6 +1,6 @@
 //! Reads the application of settings.
 
-ghost use Rattle.std.specs.Prelude.{◌≡◌, ◌<◌, IfOk, length};
+ghost use Rattle.std.specs.Prelude.{◌<◌, IfOk, length};
 ghost use Rattle.std.specs.List.{AllByRecursion};
 ghost use Rattle.toml.specs.View.{table_view};
 ghost use Rattle.ua_disco.specs.Bounds.{IsShort, IsList, IsName, IsApplication};

@@ -1,6 +1,6 @@
 //! Reads the endpoints of settings.
 
-ghost use Rattle.std.specs.Prelude.{◌≡◌, ◌≤◌, None, IfOk, length};
+ghost use Rattle.std.specs.Prelude.{◌≤◌, None, IfOk, length};
 ghost use Rattle.std.specs.List.{AllByRecursion};
 ghost use Rattle.toml.specs.View.{table_view};
 ghost use Rattle.ua_disco.specs.Bounds.{IsShort, IsList, IsCertificate, IsToken, IsEndpoint};

@@ -1,6 +1,6 @@
 //! Reads the limits of settings.
 
-ghost use Rattle.std.specs.Prelude.{◌≡◌, ◌≤◌, IfOk};
+ghost use Rattle.std.specs.Prelude.{◌≤◌, IfOk};
 ghost use Rattle.toml.specs.View.{table_view};
 ghost use Rattle.ua_disco.specs.Bounds.{IsLimits};
 ghost use Rattle.ua_disco.specs.Faults.{Gives};

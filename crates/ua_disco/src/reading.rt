@@ -125,7 +125,7 @@ impl FromValue for UaBytes {
             Err(hex::FromHexError::OutOfMemory) => return Err(SettingsFault::NoMemory),
             Err(_) => return Err(is_bad_value(alloc, path)),
         };
-        match UaBytes::new(alloc, bytes.as_slice()) {
+        match UaBytes::from_vec(bytes) {
             Ok(bytes) => Ok(bytes),
             Err(_) => Err(SettingsFault::NoMemory),
         }

@@ -1,12 +1,11 @@
 //! Reads the tables of a document of settings, in the order of their keys.
 
-ghost use Rattle.std.specs.Prelude.{◌≡◌, ◌≤◌, Some, length, IfOk};
+ghost use Rattle.std.specs.Prelude.{◌≤◌, Some, length, IfOk};
 ghost use Rattle.std.specs.List.{AllByRecursion};
 ghost use Rattle.toml.specs.View.{table_view};
-ghost use Rattle.ua_disco.specs.Bounds.{IsShort, IsList, IsCertificate, IsName, IsToken, IsApplication, IsEndpoint, IsLimits};
+ghost use Rattle.ua_disco.specs.Bounds.{IsShort};
 ghost use Rattle.ua_disco.specs.Faults.{Gives};
-ghost use Rattle.ua_disco.specs.Reading.{text_value};
-ghost use Rattle.ua_disco.specs.Tables.{text_or_null, text_or, number_or, array_key};
+ghost use Rattle.ua_disco.specs.Tables.{text_or_null, text_or, array_key};
 
 use crate::fault::SettingsFault;
 use crate::reading::{FromValue, Listed, read_integer, read_optional};

@@ -1,5 +1,5 @@
 -- The headers of requests and responses, OPC 10000-4 7.33 to 7.35.
-use Rattle.std.specs.Prelude.{refl}
+use Rattle.std.specs.Prelude.{refl, ℕ, ℤ, None}
 use Rattle.std.specs.Int.{w32}
 use Rattle.ua_service.specs.declared.headers.RequestHeader.{RequestHeader}
 use Rattle.ua_service.specs.declared.headers.ResponseHeader.{ResponseHeader}
@@ -13,13 +13,15 @@ use Rattle.ua_value.specs.Array.{array}
 use Rattle.ua_value.specs.ArrayLaws.{lawful_array}
 use Rattle.ua_value.specs.Date.{date_time, lawful_date_time}
 use Rattle.ua_value.specs.Status.{status_code, lawful_status_code}
-use Rattle.ua_value.specs.Node.{node_id}
+use Rattle.ua_value.specs.Node.{node_id, two_byte}
 use Rattle.ua_value.specs.NodeLaws.{lawful_node}
 use Rattle.ua_value.specs.Sequence.{by, pair}
 use Rattle.ua_value.specs.SequenceLaws.{lawful_by, lawful_pair}
+use Rattle.ua_variant.specs.declared.extension.ExtensionObject.{ExtensionObject}
+use Rattle.ua_variant.specs.declared.extension.ExtensionBody.TheVariants as extensions
 use Rattle.ua_variant.specs.Extension.{extension_object}
 use Rattle.ua_variant.specs.ExtensionLaws.{lawful_extension_object}
-use Rattle.ua_variant.specs.Diagnostic.{diagnostic}
+use Rattle.ua_variant.specs.Diagnostic.{Diagnostic, diagnostic, plain}
 use Rattle.ua_variant.specs.DiagnosticLaws.{lawful_diagnostic}
 
 unfoldable pub request_header : Format RequestHeader
@@ -43,6 +45,24 @@ pub lawful_response_header : IsLawful response_header
 unfolding response_header
 lawful_response_header = lawful_by _ _ _ (λ v. refl) (λ p. refl)
     (lawful_pair _ _ lawful_date_time (lawful_pair _ _ (lawful_unsigned w32 wide_32) (lawful_pair _ _ lawful_status_code (lawful_pair _ _ lawful_diagnostic (lawful_pair _ _ (lawful_array _ lawful_string) lawful_extension_object)))))
+
+-- the null id, without a body
+abbrev pub no_object : ExtensionObject
+no_object = record { type_id = two_byte 0; body = extensions.None }
+
+abbrev pub no_diagnostics : Diagnostic
+no_diagnostics = plain (record { symbolic_id = None; namespace_uri = None; locale = None; localized_text = None; additional_info = None; inner_status = None })
+
+-- the moment, the handle of the request, the result, and nothing else
+abbrev pub response_header_at : ℤ → ℕ → ℕ → ResponseHeader
+response_header_at now handle status = record {
+  timestamp = record { 0 = now };
+  request_handle = handle;
+  service_result = record { 0 = status };
+  service_diagnostics = no_diagnostics;
+  string_table = None;
+  additional_header = no_object;
+}
 
 unfoldable pub service_fault : Format ServiceFault
 service_fault = by

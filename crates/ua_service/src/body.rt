@@ -1,6 +1,6 @@
 //! Messages, and the bodies that are read and written for them.
 
-ghost use Rattle.std.specs.Prelude.{◌≡◌, ◌≤◌, ◌++◌, ℕ, length, if◌then◌else◌, is_ok, OnOk, OnErr};
+ghost use Rattle.std.specs.Prelude.{◌≡◌, ◌≤◌, ◌++◌, length, if◌then◌else◌, is_ok, OnOk, OnErr};
 ghost use Rattle.ua_value.specs.Format.{Gives, AppendsPart, input_limit};
 ghost use Rattle.ua_value.specs.Whole.{ReadsAll};
 ghost use Rattle.ua_service.specs.Message.{Message, message, is_id, id_of};

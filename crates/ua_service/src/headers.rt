@@ -1,12 +1,14 @@
 //! What stands before the fields of every request and of every response.
 
-ghost use Rattle.ua_service.specs.Headers.{request_header, lawful_request_header, response_header, lawful_response_header, service_fault, lawful_service_fault};
+ghost use Rattle.std.specs.Prelude.{◌≡◌};
+ghost use Rattle.ua_service.specs.Headers.{request_header, lawful_request_header, response_header, lawful_response_header, response_header_at, no_diagnostics, no_object, service_fault, lawful_service_fault};
 
 use std::alloc::Global;
 use ua_value::{
-    Array, DateTime, Fields, NoMemory, NodeId, Parts, ReadFault, Sink, StatusCode, UaString, Wire,
+    Array, DateTime, Fields, Identifier, NoMemory, NodeId, Parts, ReadFault, Sink, StatusCode,
+    UaString, Wire,
 };
-use ua_variant::{DiagnosticInfo, ExtensionObject};
+use ua_variant::{DiagnosticInfo, ExtensionBody, ExtensionObject};
 
 /// What stands before the fields of every request (OPC 10000-4 7.33).
 #[derive(Drop)]
@@ -221,6 +223,43 @@ impl Wire for ResponseHeader {
     }
 
     ghost laws = { lawful_response_header };
+}
+
+fn no_diagnostics(alloc: Global) -> DiagnosticInfo
+    ensures { result ≡ no_diagnostics }
+{
+    let made = DiagnosticInfo::new(alloc, None, None, None, None, UaString::null(), None, None);
+    match made {
+        Ok(diagnostics) => diagnostics,
+        Err(_) => unreachable!(),
+    }
+}
+
+fn no_object() -> ExtensionObject
+    ensures { result ≡ no_object }
+{
+    ExtensionObject {
+        type_id: NodeId {
+            namespace: 0,
+            identifier: Identifier::Numeric(0),
+        },
+        body: ExtensionBody::None,
+    }
+}
+
+/// The header of a response (OPC 10000-4 7.34): the moment in ticks of 100 ns since 1601-01-01
+/// UTC, the handle of the request, the result, and nothing else. It takes no memory.
+pub fn response_header(alloc: Global, now: i64, handle: u32, status: u32) -> ResponseHeader
+    ensures { result ≡ response_header_at now handle status }
+{
+    ResponseHeader {
+        timestamp: DateTime(now),
+        request_handle: handle,
+        service_result: StatusCode(status),
+        service_diagnostics: no_diagnostics(alloc),
+        string_table: Array::null(),
+        additional_header: no_object(),
+    }
 }
 
 /// The response to a request of which the service failed as a whole (OPC 10000-4 7.35).

@@ -22,7 +22,7 @@ pub use discovery::{
     FindServersRequest, FindServersResponse, GetEndpointsRequest, GetEndpointsResponse,
 };
 pub use endpoint::{EndpointDescription, UserTokenPolicy};
-pub use headers::{RequestHeader, ResponseHeader, ServiceFault};
+pub use headers::{RequestHeader, ResponseHeader, ServiceFault, response_header};
 pub use other::OtherRequest;
 pub use read::{read_close, read_open, read_open_response, read_request, read_response};
 pub use request::Request;

@@ -1,5 +1,5 @@
 -- Arrays (OPC 10000-6 5.2.5): a count in four bytes and the items, or -1 where there is none.
-use Rattle.std.specs.Prelude.{◌≡◌, ℕ, zero, suc, ◌≤◌, ◌==◌, List, [], ◌∷◌, ◌++◌, length, Option, Some, None, if◌then◌else◌, nat_lt}
+use Rattle.std.specs.Prelude.{◌≡◌, ℕ, zero, suc, ◌≤◌, ◌<◌, ◌==◌, List, [], ◌∷◌, ◌++◌, length, Option, Some, None, if◌then◌else◌, nat_lt}
 use Rattle.std.specs.List.{flat_map, AllByRecursion}
 use Rattle.std.specs.Int.{w32, to_le_bytes}
 use Rattle.ua_value.specs.Format.{◌>>=◌, Grammar, Format, input_limit}
@@ -27,6 +27,11 @@ counted_items_at g n bytes =
     else (if nat_lt longest n then None
     else (if nat_lt (length bytes) n then None
     else (items_at g n bytes >>= λ vs. Some (Some vs.0, vs.1))))
+
+-- the count says more items than there are bytes behind it
+abbrev pub CountsMore : Option (ℕ × List ℕ) → Type 0
+CountsMore None = ⊥
+CountsMore (Some n) = (n.0 < 0xffff_ffff) × (length n.1 < n.0)
 
 abbrev pub array_at : {V : Type 0} → Grammar V → List ℕ → Option (Option (List V) × List ℕ)
 array_at g bytes = (unsigned w32).grammar.front bytes >>= λ n. counted_items_at g n.0 n.1

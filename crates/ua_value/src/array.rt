@@ -1,11 +1,13 @@
 //! Arrays (OPC 10000-6 5.2.5): a count in four bytes and the items, or -1 for none.
 #![tactic(auto, unfolding(crate::specs::Array::array))]
 
-ghost use Rattle.std.specs.Prelude.{◌≡◌, ◌≤◌, ◌<◌, ◌++◌, ◌↔◌, length, option_copied, IfOk, IfErr, IsErrOf, OnOk, OnErr};
+ghost use Rattle.std.specs.Prelude.{◌≡◌, ◌≤◌, ◌<◌, ◌++◌, ◌↔◌, length, option_map, option_copied, Err, IfOk, IfErr, IsErrOf, OnOk, OnErr};
+ghost use Rattle.std.specs.Int.{w32};
 ghost use Rattle.std.specs.List.{flat_map, AllByRecursion};
 ghost use Rattle.ua_value.specs.Format.{input_limit, AppendsPart, Gives};
 ghost use Rattle.ua_value.specs.Text.{longest};
-ghost use Rattle.ua_value.specs.Array.{array, items_at};
+ghost use Rattle.ua_value.specs.Number.{unsigned};
+ghost use Rattle.ua_value.specs.Array.{array, items_at, CountsMore};
 ghost use Rattle.ua_value.specs.ArrayLaws.{lawful_array};
 
 use crate::bytes::LONGEST;
@@ -23,7 +25,7 @@ pub struct Array<T: Wire> {
 }
 
 impl<T: Wire> Model for Array<T> {
-    ghost use Rattle.std.specs.Prelude.{◌≤◌, ℕ, List, Option, option_map, length, IfSome};
+    ghost use Rattle.std.specs.Prelude.{◌≤◌, List, Option, option_map, length, IfSome};
     ghost use Rattle.std.specs.List.{flat_map};
     ghost use Rattle.ua_value.specs.Format.{input_limit};
     ghost use Rattle.ua_value.specs.Text.{longest};
@@ -65,6 +67,13 @@ impl<T: Wire> Array<T> {
             return Err(ValueFault::TooLong);
         }
         Ok(Array { items: Some(items) })
+    }
+
+    /// The list of the items, if there is one. It takes no memory.
+    pub fn into_vec(self) -> Option<Vec<T>>
+        ensures { option_map (λ v. v.items) result ≡ self }
+    {
+        self.items
     }
 }
 
@@ -153,17 +162,19 @@ impl<T: Wire> Wire for Array<T> {
         }
     }
 
-    fn read_front(alloc: Global, input: &[u8]) -> Result<(Array<T>, &[u8]), ReadFault> {
+    fn read_front(alloc: Global, input: &[u8]) -> Result<(Array<T>, &[u8]), ReadFault>
+        requires { length input.now ≤ input_limit }
+        ensures gives { Gives (λ x. (x.0, x.1.now)) result ((array T.format).grammar.front input.now) }
+        ensures shorter { IfOk result (λ x. length x.1.now ≤ length input.now) }
+        ensures counted { CountsMore ((unsigned w32).grammar.front input.now) → result ≡ Err ReadFault.Refused }
+    {
         let Some((count, rest)) = front_u32(input) else {
             return Err(ReadFault::Refused);
         };
         if count == u32::MAX {
             return Ok((Array::null(), rest));
         }
-        if count > LONGEST {
-            return Err(ReadFault::Refused);
-        }
-        if rest.len() < count as usize {
+        if count > LONGEST || rest.len() < count as usize {
             return Err(ReadFault::Refused);
         }
         let (items, rest) = read_items(alloc, count, rest)?;

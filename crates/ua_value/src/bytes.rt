@@ -1,7 +1,7 @@
 //! Byte strings (OPC 10000-6 5.2.2.7): a length in four bytes and the bytes, or -1 for none.
 #![tactic(auto, unfolding(crate::specs::Text::bytes_of))]
 
-ghost use Rattle.std.specs.Prelude.{◌≡◌, ◌≤◌, ◌<◌, ◌↔◌, length, Some, None, option_map, option_copied, IfSome, IfOk, IsErrOf};
+ghost use Rattle.std.specs.Prelude.{◌≡◌, ◌≤◌, ◌<◌, ◌↔◌, length, Some, None, option_map, option_copied, IfSome, IfOk, IfErr, IsErrOf};
 ghost use Rattle.ua_value.specs.Text.{byte_string, longest};
 ghost use Rattle.ua_value.specs.TextLaws.{lawful_byte_string};
 
@@ -66,6 +66,27 @@ impl UaBytes {
         Ok(UaBytes {
             bytes: Some(bytes.to_vec(alloc)?),
         })
+    }
+
+    /// The bytes as they are, which takes no memory. `TooLong` comes just where they are more than 2147483647, and no other fault comes; the bytes are
+    /// then dropped.
+    pub fn from_vec(bytes: Vec<u8>) -> Result<UaBytes, ValueFault>
+        ensures ok { IfOk result (λ v. v ≡ Some bytes.items) }
+        ensures too_long { IsErrOf result ValueFault.TooLong ↔ (longest < length bytes.items) }
+        ensures fault { IfErr result (λ e. e ≡ ValueFault.TooLong) }
+    {
+        if bytes.len() > LONGEST as usize {
+            Err(ValueFault::TooLong)
+        } else {
+            Ok(UaBytes { bytes: Some(bytes) })
+        }
+    }
+
+    /// The bytes, if there are any or it is empty. It takes no memory.
+    pub fn into_vec(self) -> Option<Vec<u8>>
+        ensures { option_map (λ v. v.items) result ≡ self }
+    {
+        self.bytes
     }
 
     /// The bytes, if there are any or it is empty.

@@ -1,6 +1,6 @@
 //! Guids (OPC 10000-6 5.2.2.6): three numbers and eight bytes.
 
-ghost use Rattle.std.specs.Prelude.{◌+◌, ◌≡◌, IfOk, string_bytes};
+ghost use Rattle.std.specs.Prelude.{◌+◌, ◌≡◌, Some, IfOk, string_bytes};
 ghost use Rattle.uuid.specs.Text.{hyphenated_text, lower};
 ghost use Rattle.ua_value.specs.Guid.{raw, guid, digits_of};
 ghost use Rattle.ua_value.specs.GuidLaws.{lawful_eight_bytes, lawful_guid};
@@ -9,6 +9,7 @@ use crate::fault::{NoMemory, ReadFault};
 use crate::fields::Parts;
 use crate::wire::{Sink, Wire, bytes_known};
 use std::alloc::Global;
+use std::fmt;
 use uuid::Uuid;
 
 /// A Guid, by the four fields of its spelling.
@@ -91,10 +92,16 @@ impl Guid {
     pub fn text(&self, alloc: Global) -> Result<String, NoMemory>
         ensures { IfOk result (λ t. string_bytes t ≡ hyphenated_text lower (digits_of self.now)) }
     {
-        let id = Uuid::from_bytes(digits(*self));
-        let mut buffer = Uuid::encode_buffer();
-        let text = id.hyphenated().encode_lower(&mut buffer);
-        String::from_str(alloc, text)
+        format!(in alloc; "{self}")
+    }
+}
+
+/// The text with hyphens, in lower case (OPC 10000-6 5.1.3).
+impl fmt::Display for Guid {
+    ghost output = { λ g. Some (hyphenated_text lower (digits_of g)) };
+
+    fn fmt<W: fmt::Write>(&self, f: &mut fmt::Formatter<W>) -> fmt::Result {
+        write!(f, "{}", Uuid::from_bytes(digits(*self)).hyphenated())
     }
 }
 

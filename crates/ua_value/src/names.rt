@@ -1,6 +1,6 @@
 //! Names in a namespace (OPC 10000-6 5.2.2.13).
 
-ghost use Rattle.std.specs.Prelude.{◌+◌, ◌*◌};
+ghost use Rattle.std.specs.Prelude.{◌+◌};
 ghost use Rattle.ua_value.specs.Names.{qualified_name, lawful_qualified_name};
 
 use crate::fault::{NoMemory, ReadFault};

@@ -1,6 +1,6 @@
 //! XML elements (OPC 10000-6 5.2.2.8): spelled as a String is.
 
-ghost use Rattle.std.specs.Prelude.{◌≡◌, ◌≤◌, ◌<◌, ◌↔◌, length, option_copied, Some, None, IfOk, IsErrOf};
+ghost use Rattle.std.specs.Prelude.{◌≡◌, ◌<◌, ◌↔◌, length, option_copied, Some, None, IfOk, IsErrOf};
 ghost use Rattle.ua_value.specs.Text.{xml_element, longest};
 ghost use Rattle.ua_value.specs.TextLaws.{lawful_xml_element};
 

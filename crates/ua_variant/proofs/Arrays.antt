@@ -1,10 +1,8 @@
 -- The elements of an array in memory.
-use Rattle.std.proofs.Common.{◌≡◌, ℕ, ℤ, Bool, true, zero, suc, ◌+◌, ◌<◌, ◌≤◌, max, List, [], ◌∷◌, ◌++◌, map, length, get_or, take, drop, Option, Some, None, refl, sym, ap, subst, ◌∙◌, append_assoc, arith, is_some, add-one, drop-cons}
+use Rattle.std.proofs.Common.{◌≡◌, ℕ, ℤ, true, zero, suc, ◌+◌, ◌<◌, ◌≤◌, List, [], ◌∷◌, ◌++◌, map, length, get_or, Option, Some, None, refl, sym, ap, subst, ◌∙◌, append_assoc, arith, is_some}
 use Rattle.std.specs.List.{flat_map}
-use Rattle.std.specs.Int.{w32, to_le_bytes}
-use Rattle.std.proofs.lemmas.List.{take-append-drop}
-use Rattle.std.proofs.lemmas.List.Concat.{flat_map-cons, flat_map-append}
-use Rattle.ua_value.specs.Format.{AppendsPart, input_limit}
+use Rattle.std.proofs.lemmas.List.Concat.{flat_map-cons}
+use Rattle.ua_value.specs.Format.{AppendsPart}
 use Rattle.ua_value.specs.Text as text
 use Rattle.std.specs.Global.{Vec}
 use Rattle.ua_variant.specs.declared.kind.Kind as code_kind
@@ -13,7 +11,7 @@ use Rattle.ua_variant.specs.declared.variant.Body.{Body}
 use Rattle.ua_variant.specs.declared.variant.Body.TheVariants as bodies
 use Rattle.ua_variant.specs.Kinds.{Kind}
 use Rattle.ua_variant.specs.Values.{Element, Variant, depth, element_depth, items_depth, list_depth, items_of, count, array_with}
-use Rattle.ua_variant.specs.Spelling.{canon, element_canon, items_canon, shape_canon, head_of, IsVariant, IsSound}
+use Rattle.ua_variant.specs.Spelling.{canon, element_canon, shape_canon, head_of, IsVariant, IsSound}
 use Rattle.ua_variant.specs.Lists.{canon_of_items, canon_of_list, IsShortList}
 use Rattle.ua_variant.specs.View.{element, items_in, body_of, kind_of}
 
@@ -33,24 +31,6 @@ spelled e = element_canon (element e)
 pub canon_flat : (es : List code.Element) → canon_of_items (map element es) ≡ flat_map spelled es
 canon_flat [] = refl
 canon_flat (e ∷ es) = ap (λ b. spelled e ++ b) (canon_flat es) ∙ sym (flat_map-cons spelled e es)
-
--- item i of a list, and those after it
-here : {V : Type 0} (vs : List V) (i : ℕ) (v : V) → i < length vs → v ≡ get_or vs i v → drop i vs ≡ v ∷ drop (i + 1) vs
-here vs i v lt e = rw add-one (drop-cons vs i v lt ∙ ap (λ x. x ∷ drop (suc i) vs) (sym e))
-
-flat_here : {V : Type 0} (f : V → List ℕ) (vs : List V) (i : ℕ) (v : V) → i < length vs → v ≡ get_or vs i v → flat_map f (drop i vs) ≡ f v ++ flat_map f (drop (i + 1) vs)
-flat_here f vs i v lt e = ap (flat_map f) (here vs i v lt e) ∙ flat_map-cons f v (drop (i + 1) vs)
-
--- a beginning of one item, behind the items before it
-pub appends_part : {V : Type 0} (f : V → List ℕ) (vs : List V) (i : ℕ) (v : V) (old between new : List ℕ) → i < length vs → v ≡ get_or vs i v
-    → between ≡ old ++ flat_map f (take i vs) → AppendsPart between new (f v) → AppendsPart old new (flat_map f vs)
-appends_part f vs i v old between new lt e so_far p = record {
-  part = flat_map f (take i vs) ++ p.part;
-  missing = p.missing ++ flat_map f (drop (i + 1) vs);
-  appended = p.appended ∙ ap (λ (l : List ℕ). l ++ p.part) so_far ∙ append_assoc old (flat_map f (take i vs)) p.part;
-  begins = ap (flat_map f) (sym (take-append-drop i vs)) ∙ flat_map-append f (take i vs) (drop i vs) ∙ ap (λ (l : List ℕ). flat_map f (take i vs) ++ l) (flat_here f vs i v lt e ∙ ap (λ (l : List ℕ). l ++ flat_map f (drop (i + 1) vs)) p.begins)
-      ∙ simp append_assoc;
-}
 
 -- ---- one behind another
 

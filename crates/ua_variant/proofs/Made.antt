@@ -1,5 +1,5 @@
 -- What the constructors make is a value.
-use Rattle.std.proofs.Common.{◌≡◌, ◌≤◌, ◌<◌, ◌*◌, ◌+◌, ℕ, ℤ, suc, List, [], ◌∷◌, Bool, true, false, length, Option, Some, None, refl, ap, sym, subst, ◌∙◌, arith, eqb}
+use Rattle.std.proofs.Common.{◌≡◌, ◌≤◌, ◌<◌, ◌*◌, ℕ, ℤ, suc, List, [], ◌∷◌, Bool, true, false, length, Option, Some, None, refl, ap, subst, ◌∙◌, arith}
 use Rattle.std.specs.Prelude.{◌&&◌, ◌==◌, IfSome}
 use Rattle.std.proofs.lemmas.Bool.{eqb-true}
 use Rattle.ua_value.specs.Format.{input_limit}
@@ -7,13 +7,13 @@ use Rattle.ua_value.specs.Text.{longest}
 use Rattle.ua_value.specs.Lists.{same_some}
 use Rattle.ua_value.specs.Number.{signed}
 use Rattle.ua_value.specs.NumberLaws.{wide_32}
-use Rattle.std.specs.Int.{w32, to_le_bytes, cast_unsigned}
+use Rattle.std.specs.Int.{w32, cast_unsigned}
 use Rattle.std.specs.List.{flat_map}
 use Rattle.std.proofs.lemmas.List.{length-append}
 use Rattle.std.proofs.lemmas.List.Concat.{flat_map-cons}
 use Rattle.ua_variant.specs.Kinds.{Kind, kind_number}
 use Rattle.ua_variant.specs.Codes.{kind_inj}
-use Rattle.ua_variant.specs.Values.{Variant, Element, kind, depth, list_depth, items_of, count, AllOf, array_with, count_of, deepest}
+use Rattle.ua_variant.specs.Values.{Element, kind, depth, list_depth, items_of, count, AllOf, array_with, count_of, deepest}
 use Rattle.ua_variant.specs.Spelling.{lengths, IsShape, AreSound, IsVariant}
 use Rattle.ua_variant.specs.Lists.{IsShortList}
 use Rattle.ua_variant.specs.Making.{are_of, are_all_of, has_shape}

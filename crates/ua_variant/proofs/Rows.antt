@@ -1,13 +1,12 @@
 -- Worked examples: what the definitions say of given bytes, by computation.
 use Rattle.std.proofs.Common.{◌≡◌, ℕ, List, [], ◌∷◌, Option, Some, None, refl}
 use Rattle.std.specs.Prelude.{pos}
-use Rattle.ua_value.specs.Number.{unsigned, signed, boolean}
+use Rattle.ua_value.specs.Number.{unsigned, signed}
 use Rattle.ua_value.specs.Text.{bytes_of}
 use Rattle.ua_value.specs.Date.{date_time}
-use Rattle.ua_value.specs.Status.{status_code}
 use Rattle.ua_value.specs.Array.{array, items_at}
-use Rattle.ua_variant.specs.Kinds.{plain, int32, byte, byte_string, variant_kind, data_kind, kind_named}
-use Rattle.ua_variant.specs.Values.{Variant, null, one, null_array, many, leaf, variant, data_value, no_items, item, DataValue, without, with_value, depth, data_depth}
+use Rattle.ua_variant.specs.Kinds.{plain, int32, byte, byte_string, data_kind, kind_named}
+use Rattle.ua_variant.specs.Values.{Variant, null, one, many, leaf, data_value, no_items, item, DataValue, without, with_value, depth, data_depth}
 use Rattle.ua_variant.specs.Picoseconds.{picoseconds}
 use Rattle.ua_variant.specs.Stamps.{stamps}
 use Rattle.ua_variant.specs.Spelling.{canon, data_canon}

@@ -1,8 +1,7 @@
 -- Reading level by level.
-use Rattle.std.proofs.Common.{◌≡◌, ◌≤◌, ◌<◌, ◌-◌, ◌+◌, ◌∙◌, ℕ, zero, suc, Bool, true, false, List, [], ◌∷◌, length, get_or, take, drop, Option, Some, None, refl, ap, sym, arith, sub-one, length-append}
+use Rattle.std.proofs.Common.{◌≡◌, ◌≤◌, ◌<◌, ◌-◌, ℕ, zero, suc, List, [], ◌∷◌, length, get_or, take, drop, Some, None, refl, ap, sym, arith, sub-one, length-append}
 use Rattle.std.proofs.lemmas.List.{take_all}
-use Rattle.ua_value.specs.Format.{Grammar, IsBytes, input_limit}
-use Rattle.ua_value.specs.Sequence.{headed}
+use Rattle.ua_value.specs.Format.{IsBytes, input_limit}
 use Rattle.ua_variant.specs.Values.{Variant, DataValue, deepest}
 use Rattle.ua_variant.specs.Spelling.{IsVariant, IsDataValue}
 use Rattle.ua_variant.specs.SpellingLaws.{sound, data_sound}

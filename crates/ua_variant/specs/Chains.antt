@@ -1,5 +1,5 @@
 -- More grammars made of others.
-use Rattle.std.specs.Prelude.{◌≡◌, ℕ, List, [], ◌++◌, Bool, true, Option, Some, None, if◌then◌else◌}
+use Rattle.std.specs.Prelude.{◌≡◌, ℕ, List, ◌++◌, Bool, true, Option, Some, None, if◌then◌else◌}
 use Rattle.ua_value.specs.Format.{◌>>=◌, Grammar}
 use Rattle.ua_value.specs.Array.{SpellsArray, array_at}
 

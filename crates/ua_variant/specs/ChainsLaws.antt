@@ -1,10 +1,9 @@
 -- The laws of grammars made of others.
-use Rattle.std.proofs.Common.{◌≡◌, ◌≤◌, ◌<◌, ◌+◌, ◌==◌, ℕ, Bool, true, false, cond, ltb, eqb, List, [], ◌∷◌, ◌++◌, length, Option, Some, None, refl, sym, ap, subst, ◌∙◌, arith, append_assoc, length-append, inl, inr, lit<}
-use Rattle.std.specs.Prelude.{◌⊎◌}
+use Rattle.std.proofs.Common.{◌≡◌, ◌≤◌, ◌<◌, ◌+◌, ℕ, Bool, false, cond, ltb, eqb, List, [], ◌∷◌, ◌++◌, length, Option, Some, None, refl, sym, ap, ◌∙◌, arith, append_assoc, length-append, inl, inr, lit<}
 use Rattle.std.specs.Int.{w32, to_le_bytes}
 use Rattle.std.proofs.lemmas.Bool.{ltb-false, le-ltb, eqb-true, ne_eqb}
 use Rattle.ua_value.specs.Format.{◌>>=◌, IsBytes, Grammar, Takes, IsGrammar}
-use Rattle.ua_value.specs.Lists.{IsBytes-rest, bind_some, chosen, passed, guarded, same_some}
+use Rattle.ua_value.specs.Lists.{IsBytes-rest, bind_some, chosen, passed, guarded}
 use Rattle.ua_value.specs.Number.{unsigned}
 use Rattle.ua_value.specs.SequenceLaws.{takes_as}
 use Rattle.ua_value.specs.Text as text

@@ -10,7 +10,7 @@ use Rattle.ua_variant.specs.declared.extension.ExtensionBody.TheVariants as bodi
 use Rattle.ua_variant.specs.declared.extension.ExtensionObject.{ExtensionObject}
 use Rattle.ua_variant.specs.declared.stamps.Stamps.{Stamps}
 use Rattle.ua_variant.specs.Kinds as kinds
-use Rattle.ua_variant.specs.Kinds.{Plain, Kind, Payload, kind_number, kind_named, numbered, plain, variant_kind, data_kind, info_kind}
+use Rattle.ua_variant.specs.Kinds.{Plain, Kind, Payload, kind_number, kind_named, numbered, plain}
 use Rattle.ua_variant.specs.DiagnosticCode as diagnostic_code
 use Rattle.ua_variant.specs.Stamps.{Row, row_of, of_row}
 use Rattle.ua_variant.specs.Values.{Variant, null, one, null_array, many, Element, leaf, variant, data_value, info, Items, no_items, item, DataValue, without, with_value}

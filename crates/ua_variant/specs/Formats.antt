@@ -1,5 +1,5 @@
 -- The formats of variants and data values, with their laws.
-use Rattle.std.proofs.Common.{◌≡◌, ℕ, List, Option, Some}
+use Rattle.std.proofs.Common.{◌≡◌, ℕ, List, Some}
 use Rattle.ua_value.specs.Format.{Format, IsBytes, Takes, IsLawful}
 use Rattle.ua_variant.specs.Values.{Variant, DataValue, deepest}
 use Rattle.ua_variant.specs.Spelling.{IsWithin, IsDataWithin, canon, data_canon, IsVariant, IsDataValue}

@@ -1,6 +1,6 @@
 -- The canonical first bytes of variants.
-use Rattle.std.proofs.Common.{◌≡◌, ◌<◌, ◌≤◌, ◌+◌, ℕ, zero, suc, Bool, true, false, ltb, eqb, Option, Some, None, refl, sym, ap, subst, ◌∙◌, arith, ltb-true, inl, inr}
-use Rattle.std.specs.Prelude.{◌&&◌, ◌⊎◌}
+use Rattle.std.proofs.Common.{◌≡◌, ◌<◌, ◌+◌, ℕ, zero, suc, Bool, true, ltb, eqb, refl, ap, ◌∙◌, arith, ltb-true, inl, inr}
+use Rattle.std.specs.Prelude.{◌&&◌}
 use Rattle.std.proofs.lemmas.Bool.{eqb-true, cases_lt}
 use Rattle.ua_value.specs.Localized.{has, flag}
 use Rattle.ua_variant.specs.Kinds.{Kind, kind_number, kind_named, numbered}

@@ -1,5 +1,5 @@
 -- The elements of an array, as a list.
-use Rattle.std.specs.Prelude.{◌≡◌, ℕ, ◌≤◌, ◌++◌, List, length, Option, Some, None}
+use Rattle.std.specs.Prelude.{ℕ, ◌≤◌, ◌++◌, List, length, Option, Some, None}
 use Rattle.std.specs.Int.{w32, to_le_bytes}
 use Rattle.ua_value.specs.Format.{input_limit}
 use Rattle.ua_value.specs.Text as text

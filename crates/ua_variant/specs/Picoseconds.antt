@@ -1,6 +1,6 @@
 -- Parts of a moment that are smaller than its tick, OPC 10000-6 5.2.2.17.
-use Rattle.std.proofs.Common.{◌≡◌, ℕ, ◌≤◌, ◌<◌, min, refl, ap, arith, length}
-use Rattle.std.specs.Int.{w16, to_le_bytes}
+use Rattle.std.proofs.Common.{ℕ, ◌≤◌, min, refl, ap, arith, length}
+use Rattle.std.specs.Int.{w16}
 use Rattle.ua_value.specs.Format.{Format, IsLawful}
 use Rattle.ua_value.specs.Number.{unsigned}
 use Rattle.ua_value.specs.NumberLaws.{lawful_unsigned, wide_16}

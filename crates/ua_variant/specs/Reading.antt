@@ -1,6 +1,6 @@
 -- Reading variants and data values from the front of bytes, to a depth.
-use Rattle.std.specs.Prelude.{◌≡◌, ℕ, zero, suc, ◌==◌, List, [], ◌∷◌, Option, Some, None, Bool, true, false, is_some}
-use Rattle.ua_value.specs.Format.{Grammar, Format}
+use Rattle.std.specs.Prelude.{ℕ, zero, suc, ◌==◌, Option, Some, None, Bool}
+use Rattle.ua_value.specs.Format.{Grammar}
 use Rattle.ua_value.specs.Sequence.{both, made, never, absent, either, headed}
 use Rattle.ua_value.specs.Localized.{has}
 use Rattle.ua_variant.specs.Chains.{after, list}

@@ -1,28 +1,24 @@
 -- Reading to a depth is lawful, and reads the spellings that are no deeper.
-use Rattle.std.proofs.Common.{◌≡◌, ◌≤◌, ◌<◌, ◌+◌, ℕ, zero, suc, ℤ, List, [], ◌∷◌, ◌++◌, length, Bool, true, false, Option, Some, None, refl, sym, ap, subst, ◌∙◌, arith, append_assoc, eqb}
-use Rattle.std.specs.Prelude.{is_some}
-use Rattle.std.specs.Int.{w32, to_le_bytes}
-use Rattle.std.proofs.lemmas.Bool.{ne_eqb}
-use Rattle.ua_value.specs.Format.{Grammar, Format, IsGrammar, IsLawful}
+use Rattle.std.proofs.Common.{◌≤◌, ℕ, zero, suc, List, length, Bool, Option, Some, None, ap, arith, eqb}
+use Rattle.std.specs.Int.{w32}
+use Rattle.ua_value.specs.Format.{Grammar, IsGrammar, IsLawful}
 use Rattle.ua_value.specs.Number.{signed}
 use Rattle.ua_value.specs.NumberLaws.{lawful_signed, wide_32}
 use Rattle.ua_value.specs.Text as text
-use Rattle.ua_value.specs.Text.{longest}
 use Rattle.ua_value.specs.Array as arrays_of
 use Rattle.ua_value.specs.ArrayLaws.{lawful_array}
-use Rattle.ua_value.specs.Sequence.{both, made, never, absent, either, headed, part}
 use Rattle.ua_value.specs.SequenceLaws.{both_reads, made_reads, never_reads, absent_reads, either_reads, part_reads, headed_reads}
 use Rattle.ua_value.specs.Localized.{has}
-use Rattle.ua_variant.specs.Chains.{after, passing, list}
+use Rattle.ua_variant.specs.Chains.{passing, list}
 use Rattle.ua_variant.specs.ChainsLaws.{after_reads, passing_reads, list_reads}
-use Rattle.ua_variant.specs.Kinds.{Plain, Kind, plain, variant_kind, data_kind, info_kind, format_of, lawful_of, kind_named}
+use Rattle.ua_variant.specs.Kinds.{Kind, plain, variant_kind, data_kind, info_kind, format_of, lawful_of, kind_named}
 use Rattle.ua_variant.specs.Stamps.{stamps}
 use Rattle.ua_variant.specs.StampsLaws.{lawful_stamps}
 use Rattle.ua_variant.specs.Diagnostic as diagnostics
 use Rattle.ua_variant.specs.DiagnosticLaws as diagnostic_laws
-use Rattle.ua_variant.specs.Values.{Variant, null, one, null_array, many, Element, leaf, variant, data_value, info, Items, no_items, item, DataValue, without, with_value, kind, is_variant, count, depth, element_depth, items_depth, data_depth, items_of, array_with, count_of, is_shape_of}
-use Rattle.ua_variant.specs.Spelling.{low_bits, lengths, shape, SpellsShape, IsHead, IsMask, Spells, SpellsElement, SpellsItems, SpellsData, IsWithin, IsDataWithin}
-use Rattle.ua_variant.specs.Reading.{leaf_of, variant_of, data_of, info_of, one_of, elements, singles, arrays, behind_kind, behind_head, behind_mask, within, data_within, elements_within}
+use Rattle.ua_variant.specs.Values.{Variant, null, Element, DataValue, is_variant, depth, count_of, is_shape_of}
+use Rattle.ua_variant.specs.Spelling.{low_bits, lengths, shape}
+use Rattle.ua_variant.specs.Reading.{leaf_of, variant_of, data_of, info_of, one_of, elements, arrays, behind_kind, behind_head, behind_mask, within, data_within, elements_within}
 
 -- each spelling takes a byte
 abbrev pub TakesSome : {V : Type 0} → Grammar V → Type 0

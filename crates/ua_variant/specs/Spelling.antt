@@ -9,10 +9,10 @@ use Rattle.ua_value.specs.Array.{array}
 use Rattle.ua_value.specs.Sequence.{part}
 use Rattle.ua_value.specs.Localized.{has, flag}
 use Rattle.ua_variant.specs.Chains.{passing}
-use Rattle.ua_variant.specs.Kinds.{Plain, Kind, format_of, kind_number, kind_named}
+use Rattle.ua_variant.specs.Kinds.{Kind, format_of, kind_number, kind_named}
 use Rattle.ua_variant.specs.Stamps.{stamps}
 use Rattle.ua_variant.specs.Diagnostic as diagnostics
-use Rattle.ua_variant.specs.Values.{Variant, null, one, null_array, many, Element, leaf, variant, data_value, info, Items, no_items, item, DataValue, without, with_value, kind, is_variant, count, depth, data_depth, element_depth, AllOf, deepest, is_shape_of}
+use Rattle.ua_variant.specs.Values.{Variant, null, one, null_array, many, Element, leaf, variant, data_value, info, Items, no_items, item, DataValue, without, with_value, kind, is_variant, count, depth, data_depth, AllOf, deepest, is_shape_of}
 
 -- the kind stands in bits 0 to 5
 abbrev pub low_bits : ℕ → ℕ

@@ -1,16 +1,16 @@
 -- The laws of the canonical spellings, and what is spelled.
-use Rattle.std.proofs.Common.{◌≡◌, ◌≤◌, ◌<◌, ◌+◌, ℕ, ℤ, List, [], ◌∷◌, ◌++◌, length, Bool, true, false, Option, Some, None, refl, sym, ap, subst, ◌∙◌, arith, length-append}
+use Rattle.std.proofs.Common.{◌≡◌, ◌≤◌, ◌+◌, ℕ, ℤ, List, ◌∷◌, ◌++◌, length, true, false, Option, Some, None, refl, ap, arith, length-append}
 use Rattle.std.specs.Prelude.{is_some}
 use Rattle.std.specs.Int.{w32, to_le_bytes}
-use Rattle.ua_value.specs.Format.{IsLawful, input_limit}
+use Rattle.ua_value.specs.Format.{input_limit}
 use Rattle.ua_value.specs.Text as text
-use Rattle.ua_variant.specs.Kinds.{Plain, Kind, format_of, lawful_of}
+use Rattle.ua_variant.specs.Kinds.{Kind, lawful_of}
 use Rattle.ua_variant.specs.Stamps.{stamps}
 use Rattle.ua_variant.specs.StampsLaws.{lawful_stamps, flags}
 use Rattle.ua_variant.specs.Diagnostic as diagnostics
 use Rattle.ua_variant.specs.DiagnosticLaws as diagnostic_laws
 use Rattle.ua_variant.specs.Values.{Variant, null, one, null_array, many, Element, leaf, variant, data_value, info, Items, no_items, item, DataValue, without, with_value, kind, count, AllOf}
-use Rattle.ua_variant.specs.Spelling.{lengths, shape, SpellsShape, IsHead, IsMask, Spells, SpellsElement, SpellsItems, SpellsData, head_of, shape_canon, canon, element_canon, items_canon, data_canon, IsShape, IsSound, IsSoundElement, AreSound, IsSoundData}
+use Rattle.ua_variant.specs.Spelling.{SpellsShape, Spells, SpellsElement, SpellsItems, SpellsData, head_of, shape_canon, canon, element_canon, items_canon, data_canon, IsShape, IsSound, IsSoundElement, AreSound, IsSoundData}
 use Rattle.ua_variant.specs.ReadingLaws.{lawful_lengths}
 use Rattle.ua_variant.specs.Heads.{heads}
 

@@ -1,6 +1,6 @@
 -- The laws of what a DataValue says beside its value.
-use Rattle.std.proofs.Common.{◌≡◌, ◌≤◌, ◌<◌, ◌+◌, ℕ, List, length, Bool, true, false, Option, Some, None, refl, sym, ap, subst, ◌∙◌, arith, ltb, ltb-true, min}
-use Rattle.std.specs.Prelude.{◌&&◌, is_some, ◌==◌}
+use Rattle.std.proofs.Common.{◌≡◌, ◌<◌, ◌+◌, ℕ, Bool, true, false, refl, ltb, ltb-true}
+use Rattle.std.specs.Prelude.{◌&&◌, is_some}
 use Rattle.ua_value.specs.Date.{lawful_date_time}
 use Rattle.ua_value.specs.Status.{lawful_status_code}
 use Rattle.ua_value.specs.Localized.{has, flag}

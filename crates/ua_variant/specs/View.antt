@@ -1,5 +1,5 @@
 -- One level of variants and data values in memory, as the values that they stand for.
-use Rattle.std.specs.Prelude.{◌≡◌, ℕ, ℤ, List, Option, Some, None, option_map, map}
+use Rattle.std.specs.Prelude.{◌≡◌, List, Option, Some, None, option_map, map}
 use Rattle.std.specs.Global.{Vec, Box}
 use Rattle.ua_variant.specs.declared.stamps.Stamps.{Stamps}
 use Rattle.ua_variant.specs.declared.kind.Kind.{Kind}

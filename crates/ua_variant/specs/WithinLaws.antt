@@ -5,18 +5,16 @@ use Rattle.std.specs.Int.{w32, to_le_bytes}
 use Rattle.std.proofs.lemmas.Bool.{ne_eqb, eqb-true}
 use Rattle.ua_value.specs.Format.{Grammar}
 use Rattle.ua_value.specs.Text as text
-use Rattle.ua_value.specs.Text.{longest}
 use Rattle.ua_value.specs.Array as lists
-use Rattle.ua_value.specs.Sequence.{both, made, never, absent, either, headed, part}
+use Rattle.ua_value.specs.Sequence.{both, made, never, absent, either}
 use Rattle.ua_value.specs.Localized.{has}
-use Rattle.ua_variant.specs.Chains.{after, passing, list}
-use Rattle.ua_variant.specs.Kinds.{Plain, Kind, plain, variant_kind, data_kind, info_kind, format_of, kind_named}
+use Rattle.ua_variant.specs.Kinds.{Kind, plain, variant_kind, data_kind, info_kind, kind_named}
 use Rattle.ua_variant.specs.Stamps.{stamps}
 use Rattle.ua_variant.specs.Diagnostic as diagnostics
 use Rattle.ua_variant.specs.DiagnosticLaws as diagnostic_laws
-use Rattle.ua_variant.specs.Values.{Variant, null, one, null_array, many, Element, leaf, variant, data_value, info, Items, no_items, item, DataValue, without, with_value, kind, is_variant, count, depth, element_depth, items_depth, data_depth, items_of, array_with, count_of, is_shape_of}
-use Rattle.ua_variant.specs.Spelling.{low_bits, shape, SpellsShape, IsHead, IsMask, Spells, SpellsElement, SpellsItems, SpellsData, IsWithin, IsDataWithin}
-use Rattle.ua_variant.specs.Reading.{elements, singles, arrays, behind_kind, behind_head, behind_mask, within, data_within, elements_within}
+use Rattle.ua_variant.specs.Values.{Variant, null, one, null_array, many, Element, leaf, variant, data_value, info, Items, no_items, item, DataValue, without, with_value, kind, is_variant, count, depth, element_depth, items_depth, data_depth, items_of, array_with, count_of}
+use Rattle.ua_variant.specs.Spelling.{low_bits, shape, SpellsShape, IsHead, Spells, SpellsElement, SpellsItems, SpellsData, IsWithin, IsDataWithin}
+use Rattle.ua_variant.specs.Reading.{arrays, behind_kind, behind_head, within, data_within, elements_within}
 
 pub record IsElementWithin (d : ℕ) (k : Kind) (e : Element) (b : List ℕ) : Type 0 where
   pub spells : SpellsElement e b

@@ -1,7 +1,7 @@
 //! How deep values are nested, from the depths that are kept in those inside them.
 
 ghost use Rattle.std.specs.Prelude.{◌≡◌, ◌≤◌, map, IfSome};
-ghost use Rattle.ua_variant.specs.Values.{depth, data_depth, items_depth, list_depth, items_of, deepest};
+ghost use Rattle.ua_variant.specs.Values.{depth, items_depth, list_depth, items_of, deepest};
 ghost use Rattle.ua_variant.specs.Spelling.{AreSound, IsVariant, IsDataValue};
 ghost use Rattle.ua_variant.specs.View.{element, items_in, body_of, data_with};
 

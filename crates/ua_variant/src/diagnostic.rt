@@ -1,6 +1,6 @@
 //! What went wrong, in the words of a server.
 
-ghost use Rattle.std.specs.Prelude.{◌≡◌, ◌≤◌, ◌<◌, ◌+◌, ◌*◌, ◌++◌, ◌↔◌, length, option_map, IfOk, OnOk, OnErr, IsErrOf, IfErr, IsOk, IfSome, ◌⊎◌, None, option_copied};
+ghost use Rattle.std.specs.Prelude.{◌≡◌, ◌≤◌, ◌<◌, ◌+◌, ◌*◌, ◌++◌, ◌↔◌, length, IfOk, OnOk, OnErr, IsErrOf, IfErr, IsOk, ◌⊎◌, None, option_copied};
 ghost use Rattle.ua_value.specs.Format.{AppendsPart, Gives, input_limit};
 ghost use Rattle.ua_variant.specs.DiagnosticParts.{of_row};
 ghost use Rattle.ua_variant.specs.Diagnostic.{plain, around, depth, deepest, parts_of, inner_of, diagnostic_of, canon, within, diagnostic, IsDiagnostic, IsFull};

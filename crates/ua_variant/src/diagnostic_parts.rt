@@ -1,6 +1,6 @@
 //! What a DiagnosticInfo says beside the one inside it.
 
-ghost use Rattle.std.specs.Prelude.{◌≡◌, ◌≤◌, ◌<◌, ◌+◌, ◌*◌, ◌++◌, length, IfOk, OnOk, OnErr};
+ghost use Rattle.std.specs.Prelude.{◌≡◌, ◌≤◌, ◌<◌, ◌+◌, ◌++◌, length, IfOk, OnOk, OnErr};
 ghost use Rattle.ua_value.specs.Format.{AppendsPart, Gives, input_limit};
 ghost use Rattle.ua_value.specs.Localized.{flag};
 ghost use Rattle.ua_variant.specs.DiagnosticParts.{diagnostic_parts};

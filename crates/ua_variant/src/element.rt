@@ -1,6 +1,6 @@
 //! What stands in a Variant.
 
-ghost use Rattle.std.specs.Prelude.{◌≡◌, ◌≤◌, length, map, IfOk};
+ghost use Rattle.std.specs.Prelude.{◌≡◌, ◌≤◌, length, IfOk};
 ghost use Rattle.ua_value.specs.Format.{Gives, input_limit};
 ghost use Rattle.ua_variant.specs.Kinds.{plain};
 ghost use Rattle.ua_variant.specs.Values.{kind, element_depth, deepest};

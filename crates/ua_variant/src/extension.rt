@@ -1,6 +1,6 @@
 //! Values of types that the reader may not know.
 
-ghost use Rattle.std.specs.Prelude.{◌≡◌, ◌≤◌, ◌+◌};
+ghost use Rattle.std.specs.Prelude.{◌+◌};
 ghost use Rattle.ua_variant.specs.Extension.{extension_body, extension_object};
 ghost use Rattle.ua_variant.specs.ExtensionLaws.{lawful_extension_body, lawful_extension_object};
 

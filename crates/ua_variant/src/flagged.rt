@@ -1,7 +1,7 @@
 //! Parts behind a mask, each where its bit is set.
 
-ghost use Rattle.std.specs.Prelude.{◌≡◌, ◌≤◌, ◌++◌, length, None, is_some, IfOk, IfSome, OnOk, OnErr};
-ghost use Rattle.ua_value.specs.Format.{AppendsPart, Gives, input_limit};
+ghost use Rattle.std.specs.Prelude.{◌≡◌, ◌≤◌, ◌++◌, length, None, IfOk, IfSome};
+ghost use Rattle.ua_value.specs.Format.{Gives, input_limit};
 ghost use Rattle.ua_value.specs.Text.{string};
 ghost use Rattle.ua_variant.specs.Flagged.{kept_at, canon_kept, canon_unless_null};
 

@@ -1,6 +1,6 @@
 //! What a DataValue says beside its value.
 
-ghost use Rattle.std.specs.Prelude.{◌≡◌, ◌≤◌, ◌<◌, ◌+◌, ◌++◌, length, option_map, IfOk, IfSome, OnOk, OnErr};
+ghost use Rattle.std.specs.Prelude.{◌≡◌, ◌≤◌, ◌<◌, ◌+◌, ◌++◌, length, IfOk, OnOk, OnErr};
 ghost use Rattle.ua_value.specs.Format.{AppendsPart, Gives, input_limit};
 ghost use Rattle.ua_value.specs.Localized.{flag};
 ghost use Rattle.ua_variant.specs.Stamps.{stamps};

@@ -1,6 +1,5 @@
 //! The spellings of variants and data values as bytes.
 
-ghost use Rattle.std.specs.Prelude.{◌+◌};
 ghost use Rattle.ua_variant.specs.Formats.{variant_format, lawful_variant, data_format, lawful_data};
 
 use crate::copying::{copy_data, copy_variant};

@@ -17,8 +17,8 @@ use std::rt::Files;
 mod tests;
 
 /// Runs the command that the words are, which are those after the program's name, and gives the
-/// exit status: 0 done, 1 input refused, 2 words refused, 3 a failed read or write, 4 want of
-/// memory. What stopped the command is told on `errors`, where a failed write is passed over.
+/// exit status: 0 done, 1 settings or input refused, 2 words refused, 3 a failed read or write, 4
+/// want of memory. What stopped the command is told on `errors`, where a failed write is passed over.
 pub fn run<R, I, O, E>(rt: &R, words: &[&str], input: &mut I, output: &mut O, errors: &mut E) -> u8
 where
     R: Files + AllocGlobal,

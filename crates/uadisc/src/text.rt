@@ -4,12 +4,10 @@ ghost use Rattle.std.specs.Prelude.{◌≡◌, ◌<◌, ◌∷◌, [], Some};
 ghost use Rattle.std.specs.Char.{encode_utf8};
 ghost use Rattle.std.specs.List.{flat_map};
 ghost use Rattle.std.specs.Option.{option_map};
-ghost use Rattle.ua_value.specs.Guid.{digits_of};
 ghost use Rattle.uadisc.specs.Printed.{escaped, hex_digit, two_digits, quoted, node_text};
 
 use std::fmt;
-use ua_value::{Guid, Identifier, NodeId};
-use uuid::Uuid;
+use ua_value::{Identifier, NodeId};
 
 /// A text, or none: `null`, or the bytes between double quotes, of which all but the printable
 /// ones of ASCII, and the double quote and the backslash, are `\x` and two lower-case digits.
@@ -117,23 +115,11 @@ impl fmt::Display for Node<'_> {
         match &self.0.identifier {
             Identifier::Numeric(id) => write!(f, "i={id}"),
             Identifier::Text(text) => write!(f, "s={}", Text(text.get().map(str::as_bytes))),
-            Identifier::Guid(guid) => write!(f, "g={}", uuid_of(guid).hyphenated()),
+            Identifier::Guid(guid) => write!(f, "g={guid}"),
             Identifier::Opaque(bytes) => match bytes.get() {
                 Some(bytes) => write!(f, "b={}", Hex(bytes)),
                 None => f.write_str("b=null"),
             },
         }
     }
-}
-
-/// The Guid with its numbers in the order in which its text shows them.
-fn uuid_of(guid: &Guid) -> Uuid
-    ensures { result ≡ digits_of guid.now }
-{
-    let mut bytes = [0u8; 16];
-    bytes[..4].copy_from_slice(&guid.data1.to_be_bytes());
-    bytes[4..6].copy_from_slice(&guid.data2.to_be_bytes());
-    bytes[6..8].copy_from_slice(&guid.data3.to_be_bytes());
-    bytes[8..].copy_from_slice(&guid.data4);
-    Uuid::from_bytes(bytes)
 }

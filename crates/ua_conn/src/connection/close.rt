@@ -1,6 +1,6 @@
 //! The frame that closes the channel.
 
-ghost use Rattle.std.specs.Prelude.{◌≡◌, ◌<◌, ◌≤◌, ◌^◌, ℕ, List, OnOk};
+ghost use Rattle.std.specs.Prelude.{◌≡◌, ◌<◌, ◌≤◌, ◌^◌, ℕ, List};
 ghost use Rattle.ua_chunk.specs.Layout.{chunk_of};
 ghost use Rattle.ua_service.specs.declared.request.Request.{Request as Asked};
 ghost use Rattle.ua_conn.specs.Effects.{close_effect, Does};

@@ -17,10 +17,9 @@ use crate::fault::Fault;
 use std::alloc::Global;
 use ua_channel::{Issued, ServerChannel};
 use ua_chunk::{Assembly, OpenChunk, Sequence, open_chunk, write_open};
-use ua_disco::response_header;
 use ua_frame::status::BAD_TCP_MESSAGE_TYPE_INVALID;
 use ua_frame::{Frame, Kind};
-use ua_service::{Body, OpenResponse, read_open};
+use ua_service::{Body, OpenResponse, read_open, response_header};
 use ua_value::{DateTime, NoMemory, UaBytes};
 
 /// The status of what went well.

@@ -5,12 +5,12 @@ use super::vectors::{
     ENDPOINTS_REQUEST, ENDPOINTS_RESPONSE, FAULT_RESPONSE, FIND_REQUEST, FIND_RESPONSE,
     OTHER_REQUEST,
 };
-use crate::{DEFAULT, Settings, response_header};
+use crate::{DEFAULT, Settings};
 use std::alloc::Global;
 use std::process::Abort;
 use std::test::Fail;
 use ua_frame::Limits;
-use ua_value::{NoMemory, UaString, Wire};
+use ua_value::UaString;
 
 #[test]
 fn requests_are_answered(rt: HostRuntime) -> Result<(), Fail> {
@@ -49,21 +49,6 @@ fn answers_have_their_moment(rt: HostRuntime) -> Result<(), Fail> {
     answers_later(&rt, alloc, now, timestamp, OTHER_REQUEST, FAULT_RESPONSE)?;
     let past = b"\xFE\xFF\xFF\xFF\xFF\xFF\xFF\xFF";
     answers_later(&rt, alloc, -2, past, OTHER_REQUEST, FAULT_RESPONSE)
-}
-
-fn header_bytes(alloc: Global, now: i64, handle: u32, status: u32) -> Result<Vec<u8>, NoMemory> {
-    let header = response_header(alloc, now, handle, status);
-    let mut bytes = Vec::new(alloc);
-    header.write(&mut bytes)?;
-    Ok(bytes)
-}
-
-#[test]
-fn headers_have_moment_handle_and_status(rt: HostRuntime) -> Result<(), Fail> {
-    let bytes = header_bytes(rt.alloc(), 1, 0x0203_0405, 0x800B_0000)?;
-    let wanted = b"\x01\0\0\0\0\0\0\0\x05\x04\x03\x02\0\0\x0B\x80\0\xFF\xFF\xFF\xFF\0\0\0";
-    assert_eq!(&rt; bytes.as_slice(), wanted.as_slice());
-    Ok(())
 }
 
 fn is_text(value: &UaString, text: &str) -> bool {

@@ -4,12 +4,12 @@ use super::{are_texts, is_bytes, is_text, joined, reads};
 use crate::{
     ApplicationDescription, CloseRequest, EndpointDescription, FindServersRequest,
     FindServersResponse, GetEndpointsRequest, GetEndpointsResponse, OpenRequest, OpenResponse,
-    RequestHeader, ResponseHeader, ServiceFault, UserTokenPolicy,
+    RequestHeader, ResponseHeader, ServiceFault, UserTokenPolicy, response_header,
 };
 use std::alloc::Global;
 use std::process::Abort;
 use std::test::Fail;
-use ua_value::{Identifier, Wire};
+use ua_value::{Identifier, NoMemory, Wire};
 use ua_variant::ExtensionBody;
 
 const REQUEST_HEADER: &[u8] =
@@ -217,4 +217,19 @@ fn fields_of_discovery(rt: HostRuntime) -> Result<(), Fail> {
     spells_the_sample::<FindServersResponse>(&rt, alloc, RESPONSE_HEADER, &two)?;
     let one = joined(alloc, b"\x01\0\0\0", ENDPOINT)?;
     spells_the_sample::<GetEndpointsResponse>(&rt, alloc, RESPONSE_HEADER, &one)
+}
+
+fn header_bytes(alloc: Global, now: i64, handle: u32, status: u32) -> Result<Vec<u8>, NoMemory> {
+    let header = response_header(alloc, now, handle, status);
+    let mut bytes = Vec::new(alloc);
+    header.write(&mut bytes)?;
+    Ok(bytes)
+}
+
+#[test]
+fn headers_have_moment_handle_and_status(rt: HostRuntime) -> Result<(), Fail> {
+    let bytes = header_bytes(rt.alloc(), 1, 0x0203_0405, 0x800B_0000)?;
+    let wanted = b"\x01\0\0\0\0\0\0\0\x05\x04\x03\x02\0\0\x0B\x80\0\xFF\xFF\xFF\xFF\0\0\0";
+    assert_eq!(&rt; bytes.as_slice(), wanted.as_slice());
+    Ok(())
 }

@@ -73,6 +73,21 @@ fn fields_in_order(rt: HostRuntime) -> Result<(), Fail> {
 }
 
 #[test]
+#[tactic(auto, unfolding(crate::specs::Number::unsigned))]
+fn vectors_are_kept_and_given_back(rt: HostRuntime) -> Result<(), Fail> {
+    let alloc = rt.alloc();
+    let bytes = UaBytes::from_vec([1, 2].to_vec(alloc)?)?;
+    assert_eq!(rt; bytes.get(), Some([1, 2].as_slice()));
+    let bytes = bytes.into_vec().ok_or("no bytes")?;
+    assert_eq!(rt; bytes.as_slice(), [1, 2].as_slice());
+    let items = Array::new([3u16, 4].to_vec(alloc)?)?;
+    let items = items.into_vec().ok_or("no items")?;
+    assert_eq!(rt; items.as_slice(), [3, 4].as_slice());
+    assert!(rt; UaBytes::null().into_vec().is_none());
+    Ok(())
+}
+
+#[test]
 fn laws_at_two_types() {
     laws::spellings_are_distinct::<NodeId>();
     laws::spellings_are_distinct::<Array<UaString>>();

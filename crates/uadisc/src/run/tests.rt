@@ -1,6 +1,9 @@
 use super::*;
+use std::alloc::AllocError;
 use std::process::Abort;
+use std::test::Fail;
 use std::{fs, io};
+use ua_disco::DEFAULT;
 
 const HELLO: &str =
     "48454C46 38000000 00000000 FFFF0000 FFFF0000 00000000 00000000 18000000 6F70632E7463703A2F2F6C6F63616C686F73743A34383430";
@@ -153,24 +156,20 @@ fn answers_by_a_file(rt: HostRuntime) {
 }
 
 /// The settings `default` with a second endpoint, whose mode is out of range.
-const SECOND_ENDPOINT: &str = "version = 1
-[application]
-uri = \"urn:a\"
-product_uri = \"urn:p\"
-discovery_urls = [\"opc.tcp://localhost:4840\"]
-[[application.names]]
-locale = \"en\"
-text = \"Press\"
-[[endpoint]]
-url = \"opc.tcp://localhost:4840\"
-[[endpoint.tokens]]
-id = \"0\"
-[[endpoint]]
-url = \"opc.tcp://localhost:4841\"
-mode = 4
-";
+fn with_second_endpoint(alloc: Global) -> Result<String, AllocError> {
+    let mut text = String::from_str(alloc, DEFAULT)?;
+    text.push_str("[[endpoint]]\nurl = \"opc.tcp://localhost:4841\"\nmode = 4\n")?;
+    Ok(text)
+}
 
-/// Settings are refused before the input is judged.
+/// The text of a settings file is refused, before the input is judged.
+fn refuses<R: Files + AllocGlobal + Abort>(rt: &R, text: &[u8], errors: &str) {
+    fs::write(rt, "refused.toml", text).expect(rt, "a file is written");
+    for input in [HELLO, "4g"] {
+        expect(rt, &["answer", "refused.toml"], input, 1, "", errors);
+    }
+}
+
 #[test]
 fn refuses_settings(rt: HostRuntime) {
     for (text, errors) in [
@@ -183,18 +182,17 @@ fn refuses_settings(rt: HostRuntime) {
             "version = 1\n[application]\nuri = \"urn:a\"\nnames = [{ text = \"A\" }, { text = 7 }]\n",
             "settings 3 application.names.1.text\n",
         ),
-        (SECOND_ENDPOINT, "settings 4 endpoint.1.mode\n"),
     ] {
-        fs::write(&rt, "refused.toml", text).expect(&rt, "a file is written");
-        for input in [HELLO, "4g"] {
-            expect(&rt, &["answer", "refused.toml"], input, 1, "", errors);
-        }
+        refuses(&rt, text.as_bytes(), errors);
     }
-    fs::write(&rt, "latin.toml", b"# \xE4\nversion = 1\n".as_slice()).expect(
-        &rt,
-        "a file is written",
-    );
-    expect(&rt, &["answer", "latin.toml"], HELLO, 1, "", "settings 1\n");
+    refuses(&rt, b"# \xE4\nversion = 1\n".as_slice(), "settings 1\n");
+}
+
+#[test]
+fn refuses_a_second_endpoint(rt: HostRuntime) -> Result<(), Fail> {
+    let text = with_second_endpoint(rt.alloc())?;
+    refuses(&rt, text.as_bytes(), "settings 4 endpoint.1.mode\n");
+    Ok(())
 }
 
 /// Settings are refused where the input can't be read either.

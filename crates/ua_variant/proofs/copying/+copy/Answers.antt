@@ -1,4 +1,4 @@
-use Rattle.std.proofs.Common.{◌≡◌, ap, arith, map}
+use Rattle.std.proofs.Common.{ap, arith, map}
 use Rattle.ua_variant.specs.Values.{items_depth, items_of}
 use Rattle.ua_variant.specs.View.{element}
 use Rattle.ua_variant.proofs.Arrays.{this_within}

@@ -6,7 +6,7 @@ use Rattle.ua_value.specs.Array.{items_at}
 use Rattle.ua_variant.specs.Values.{Variant, DataValue}
 use Rattle.ua_variant.specs.Reading.{elements_within}
 use Rattle.ua_variant.specs.View.{kind_of, element, body_of, data_with}
-use Rattle.ua_variant.proofs.Items.{goes_on, ends, is_done}
+use Rattle.ua_value.proofs.Items.{goes_on, ends, is_done}
 use Rattle.ua_variant.proofs.Steps.{no_level, no_data_level, no_first, no_mask, one_level, one_data_level, is_variant, is_data}
 use Rattle.ua_variant.proofs.reading.+read.Goals as goal
 

@@ -2,7 +2,7 @@ use Rattle.std.proofs.Common.{◌≡◌, ◌≤◌, ◌+◌, ◌-◌, ◌*◌, l
 use Rattle.ua_value.specs.Array.{items_at}
 use Rattle.ua_variant.specs.Reading.{elements_within}
 use Rattle.ua_variant.specs.View.{kind_of, element}
-use Rattle.ua_variant.proofs.Items.{with_front}
+use Rattle.ua_value.proofs.Items.{with_front}
 use Rattle.ua_variant.proofs.reading.+read.Given as goal
 
 abbrev pub decreases-variant_within : goal.decreases-variant_within

@@ -1,4 +1,4 @@
-use Rattle.std.proofs.Common.{◌≡◌, ◌≤◌, ◌-◌, ◌^◌, min, length, drop}
+use Rattle.std.proofs.Common.{◌≡◌, ◌≤◌, ◌-◌, min, length, drop}
 use Rattle.ua_variant.specs.Values.{product}
 use Rattle.ua_variant.proofs.shape.product.Given as goal
 

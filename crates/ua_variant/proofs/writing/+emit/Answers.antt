@@ -1,13 +1,10 @@
-use Rattle.std.proofs.Common.{◌≡◌, ◌∙◌, ◌++◌, ◌∷◌, [], List, ℕ, Bool, true, ap, sym, subst, arith, map, append_assoc, rules, take}
+use Rattle.std.proofs.Common.{◌∙◌, ◌++◌, List, ℕ, true, ap, sym, arith, rules}
 use Rattle.std.specs.List.{flat_map}
 use Rattle.std.proofs.lemmas.List.{take_all}
 use Rattle.std.proofs.lemmas.Result.{err_from_is_err_and}
-use Rattle.ua_value.specs.Format.{AppendsPart}
 use Rattle.ua_variant.specs.Values.{depth}
-use Rattle.ua_variant.specs.Spelling.{canon, head_of, shape_canon}
-use Rattle.ua_variant.specs.Lists.{canon_of_list}
-use Rattle.ua_variant.specs.View.{element, kind_of, items_in}
-use Rattle.ua_variant.proofs.Arrays.{this_within, spelled, canon_flat, appends_part, short, array_depth, cut_in_list, cut_in_shape, all_put}
+use Rattle.ua_value.proofs.Items.{appends_part}
+use Rattle.ua_variant.proofs.Arrays.{this_within, spelled, canon_flat, short, array_depth, cut_in_list, cut_in_shape, all_put}
 use Rattle.ua_variant.proofs.writing.+emit.Goals as goal
 
 pub emit_items-emit_element-requires : goal.emit_items-emit_element-requires

@@ -1,4 +1,4 @@
-use Rattle.std.proofs.Common.{◌≡◌, ap, arith}
+use Rattle.std.proofs.Common.{ap, arith}
 use Rattle.ua_variant.specs.Values.{depth}
 use Rattle.ua_variant.proofs.Arrays.{this_within, short, array_depth}
 use Rattle.ua_variant.proofs.writing.+len.Goals as goal

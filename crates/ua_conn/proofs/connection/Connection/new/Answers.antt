@@ -7,4 +7,4 @@ use Rattle.ua_conn.proofs.connection.Connection.new.Goals as goal
 
 pub returns : goal.returns
 unfolding held known cuts_within rest_within
-returns c = λ i. running_of c.args.settings.now c.args.channel_id None (c.start.ensures i) (c.in_ok-half.ensures i).half (c.starting_at.ensures i)
+returns c = λ i. running_of c.args.settings.now c.args.channel_id None (c.start.ensures i) (c.in_ok-half.ensures.made i).half (c.starting_at.ensures i)

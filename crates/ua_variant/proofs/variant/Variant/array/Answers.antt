@@ -1,4 +1,4 @@
-use Rattle.std.proofs.Common.{◌≡◌, ◌∙◌, ℕ, ap, sym, arith}
+use Rattle.std.proofs.Common.{◌∙◌, ℕ, ap, sym, arith}
 use Rattle.ua_variant.specs.Making.{has_shape}
 use Rattle.ua_variant.specs.View.{kind_of, items_in}
 use Rattle.ua_variant.proofs.Made.{array_value, array_depth}
