@@ -4,7 +4,6 @@
 mod abort;
 mod assembly;
 mod chunk;
-mod fields;
 pub mod laws;
 mod opening;
 mod sequence;

@@ -3,10 +3,10 @@
 ghost use Rattle.std.specs.Prelude.{◌≡◌, Some, None, option_copied, IfOk, IfErr};
 ghost use Rattle.ua_chunk.specs.Layout.{open_chunk_of, open_chunk_in};
 
-use crate::fields::{front_bytes, front_text, front_u32};
 use std::marker::Model;
 use ua_frame::status::BAD_DECODING_ERROR;
 use ua_frame::{Frame, Kind};
+use ua_value::{bytes_front, front_u32, string_front};
 
 /// The URI of the security policy None, by which our own OPN frames go. OPC 10000-7, SecurityPolicy - None.
 pub const POLICY_NONE: &str = "http://opcfoundation.org/UA/SecurityPolicy#None";
@@ -73,9 +73,9 @@ fn open_at(fields: &[u8]) -> Option<OpenChunk<'_>>
     ensures { result ≡ open_chunk_of fields.now }
 {
     let (channel, rest) = front_u32(fields)?;
-    let (policy, rest) = front_text(rest)?;
-    let (_certificate, rest) = front_bytes(rest)?;
-    let (_thumbprint, rest) = front_bytes(rest)?;
+    let (policy, rest) = string_front(rest)?;
+    let (_certificate, rest) = bytes_front(rest)?;
+    let (_thumbprint, rest) = bytes_front(rest)?;
     let (sequence, rest) = front_u32(rest)?;
     let (request_id, body) = front_u32(rest)?;
     Some(OpenChunk {

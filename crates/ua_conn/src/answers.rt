@@ -5,7 +5,7 @@ ghost use Rattle.ua_conn.specs.Answers.{answer_body};
 
 use std::alloc::Global;
 use ua_disco::{Settings, answer};
-use ua_service::{Body, Request};
+use ua_service::{Request, body_of};
 use ua_value::NoMemory;
 
 /// The body of the answer to a request that came whole at the moment, in ticks. OPC 10000-4, 5.5 and 7.35.
@@ -19,8 +19,5 @@ pub(crate) fn answer_body(
     requires { now < 2 ^ 63 }
     ensures { IfOk result (λ body. body.items ≡ answer_body settings.now request.now now) }
 {
-    let response = answer(alloc, settings, request, now as i64)?;
-    let mut body = Vec::new(alloc);
-    response.write_body(&mut body)?;
-    Ok(body)
+    body_of(alloc, answer(alloc, settings, request, now as i64)?)
 }

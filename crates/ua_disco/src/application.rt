@@ -5,7 +5,7 @@ ghost use Rattle.ua_disco.specs.Answers.{described};
 
 use crate::names::Names;
 use ua_service::ApplicationDescription;
-use ua_value::{Array, LocalizedText, NoMemory, UaString, Wire};
+use ua_value::{Array, LocalizedText, NoMemory, UaString, copy_three};
 
 /// An application as it is set up (OPC 10000-4 7.2), with its name in several languages.
 #[derive(Drop)]
@@ -25,14 +25,24 @@ impl Application {
     pub(crate) fn describe(&self, name: &LocalizedText) -> Result<ApplicationDescription, NoMemory>
         ensures { IfOk result (λ d. d ≡ described self.now name.now) }
     {
+        let (application_uri, product_uri, application_name) = copy_three(
+            &self.uri,
+            &self.product_uri,
+            name,
+        )?;
+        let (gateway_server_uri, discovery_profile_uri, discovery_urls) = copy_three(
+            &self.gateway_uri,
+            &self.profile_uri,
+            &self.discovery_urls,
+        )?;
         Ok(ApplicationDescription {
-            application_uri: self.uri.copy()?,
-            product_uri: self.product_uri.copy()?,
-            application_name: name.copy()?,
+            application_uri,
+            product_uri,
+            application_name,
             application_type: self.kind,
-            gateway_server_uri: self.gateway_uri.copy()?,
-            discovery_profile_uri: self.profile_uri.copy()?,
-            discovery_urls: self.discovery_urls.copy()?,
+            gateway_server_uri,
+            discovery_profile_uri,
+            discovery_urls,
         })
     }
 }

@@ -5,7 +5,7 @@ ghost use Rattle.ua_disco.specs.Answers.{described_endpoint};
 
 use crate::application::Application;
 use ua_service::{EndpointDescription, UserTokenPolicy};
-use ua_value::{Array, LocalizedText, NoMemory, UaBytes, UaString, Wire};
+use ua_value::{Array, LocalizedText, NoMemory, UaBytes, UaString, copy_three, copy_two};
 
 /// An endpoint as it is set up (OPC 10000-4 7.14).
 #[derive(Drop)]
@@ -29,14 +29,21 @@ impl Endpoint {
     ) -> Result<EndpointDescription, NoMemory>
         ensures { IfOk result (λ d. d ≡ described_endpoint application.now name.now self.now) }
     {
+        let (endpoint_url, server_certificate) = copy_two(&self.url, &self.certificate)?;
+        let (security_policy_uri, user_identity_tokens, transport_profile_uri) = copy_three(
+            &self.policy,
+            &self.tokens,
+            &self.transport,
+        )?;
+        let server = application.describe(name)?;
         Ok(EndpointDescription {
-            endpoint_url: self.url.copy()?,
-            server: application.describe(name)?,
-            server_certificate: self.certificate.copy()?,
+            endpoint_url,
+            server,
+            server_certificate,
             security_mode: self.mode,
-            security_policy_uri: self.policy.copy()?,
-            user_identity_tokens: self.tokens.copy()?,
-            transport_profile_uri: self.transport.copy()?,
+            security_policy_uri,
+            user_identity_tokens,
+            transport_profile_uri,
             security_level: self.level,
         })
     }

@@ -14,7 +14,7 @@ use crate::{Settings, answer};
 use std::alloc::{AllocError, Global};
 use std::process::Abort;
 use std::test::Fail;
-use ua_service::{Body, Request, Response, read_request};
+use ua_service::{Request, body_of, read_request};
 use ua_value::NoMemory;
 
 fn joined(alloc: Global, parts: &[&[u8]]) -> Result<Vec<u8>, AllocError> {
@@ -40,38 +40,77 @@ fn asking(alloc: Global, id: &[u8], locales: &[u8], filter: &[u8]) -> Result<Vec
     Ok(body)
 }
 
-fn written(alloc: Global, response: &Response) -> Result<Vec<u8>, NoMemory> {
-    let mut body = Vec::new(alloc);
-    response.write_body(&mut body)?;
-    Ok(body)
+/// What settings answer.
+trait Asked: Drop {
+    fn answer_written(
+        &self,
+        alloc: Global,
+        settings: &Settings,
+        now: i64,
+    ) -> Result<Vec<u8>, NoMemory>;
 }
 
-fn answer_written(
+impl Asked for Request {
+    fn answer_written(
+        &self,
+        alloc: Global,
+        settings: &Settings,
+        now: i64,
+    ) -> Result<Vec<u8>, NoMemory> {
+        body_of(alloc, answer(alloc, settings, self, now)?)
+    }
+}
+
+/// The body of the answer to what is asked, which is then dropped.
+fn answer_written<A: Asked>(
     alloc: Global,
     settings: &Settings,
-    request: &Request,
+    asked: A,
     now: i64,
 ) -> Result<Vec<u8>, NoMemory> {
-    let response = answer(alloc, settings, request, now)?;
-    written(alloc, &response)
+    asked.answer_written(alloc, settings, now)
 }
 
-/// The body of the answer to the request of this body.
-fn answered(
-    rt: &impl Abort,
+/// Who answers.
+trait Responder: Drop {
+    /// The body of the answer to the request of this body.
+    fn answered<R: Abort>(
+        &self,
+        rt: &R,
+        alloc: Global,
+        body: &[u8],
+        now: i64,
+    ) -> Result<Vec<u8>, Fail>;
+}
+
+impl Responder for Settings {
+    fn answered<R: Abort>(
+        &self,
+        rt: &R,
+        alloc: Global,
+        body: &[u8],
+        now: i64,
+    ) -> Result<Vec<u8>, Fail> {
+        assert!(rt; body.len() <= 1000);
+        let request = read_request(alloc, body)?;
+        Ok(answer_written(alloc, self, request, now)?)
+    }
+}
+
+/// The body of the answer of settings, which are then dropped.
+fn answered<S: Responder, R: Abort>(
+    rt: &R,
     alloc: Global,
-    settings: &Settings,
+    settings: S,
     body: &[u8],
     now: i64,
 ) -> Result<Vec<u8>, Fail> {
-    assert!(rt; body.len() <= 1000);
-    let request = read_request(alloc, body)?;
-    Ok(answer_written(alloc, settings, &request, now)?)
+    settings.answered(rt, alloc, body, now)
 }
 
 /// Settings of this text answer the request so at the moment.
-fn answers_at(
-    rt: &impl Abort,
+fn answers_at<R: Abort>(
+    rt: &R,
     alloc: Global,
     text: &str,
     now: i64,
@@ -79,7 +118,7 @@ fn answers_at(
     answer: &[u8],
 ) -> Result<(), Fail> {
     let settings = Settings::from_toml(alloc, text.as_bytes())?;
-    let body = answered(rt, alloc, &settings, request, now)?;
+    let body = answered(rt, alloc, settings, request, now)?;
     assert_eq!(rt; body.as_slice(), answer, "{text}");
     Ok(())
 }

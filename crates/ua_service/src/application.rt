@@ -3,7 +3,9 @@
 ghost use Rattle.ua_service.specs.Application.{application_description, lawful_application_description};
 
 use std::alloc::Global;
-use ua_value::{Array, Fields, LocalizedText, NoMemory, Parts, ReadFault, Sink, UaString, Wire};
+use ua_value::{
+    Array, Fields, LocalizedText, NoMemory, Parts, ReadFault, Sink, UaString, Wire, copy_three,
+};
 
 /// An application that can be found (OPC 10000-4 7.2).
 #[derive(Drop)]
@@ -72,14 +74,24 @@ impl Wire for ApplicationDescription {
     }
 
     fn copy(&self) -> Result<ApplicationDescription, NoMemory> {
+        let (application_uri, product_uri, application_name) = copy_three(
+            &self.application_uri,
+            &self.product_uri,
+            &self.application_name,
+        )?;
+        let (gateway_server_uri, discovery_profile_uri, discovery_urls) = copy_three(
+            &self.gateway_server_uri,
+            &self.discovery_profile_uri,
+            &self.discovery_urls,
+        )?;
         Ok(ApplicationDescription {
-            application_uri: self.application_uri.copy()?,
-            product_uri: self.product_uri.copy()?,
-            application_name: self.application_name.copy()?,
+            application_uri,
+            product_uri,
+            application_name,
             application_type: self.application_type,
-            gateway_server_uri: self.gateway_server_uri.copy()?,
-            discovery_profile_uri: self.discovery_profile_uri.copy()?,
-            discovery_urls: self.discovery_urls.copy()?,
+            gateway_server_uri,
+            discovery_profile_uri,
+            discovery_urls,
         })
     }
 

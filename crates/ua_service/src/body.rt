@@ -1,6 +1,6 @@
 //! Messages, and the bodies that are read and written for them.
 
-ghost use Rattle.std.specs.Prelude.{◌≡◌, ◌≤◌, ◌++◌, length, if◌then◌else◌, is_ok, OnOk, OnErr};
+ghost use Rattle.std.specs.Prelude.{◌≡◌, ◌≤◌, ◌++◌, length, if◌then◌else◌, is_ok, IfOk, OnOk, OnErr};
 ghost use Rattle.ua_value.specs.Format.{Gives, AppendsPart, input_limit};
 ghost use Rattle.ua_value.specs.Whole.{ReadsAll};
 ghost use Rattle.ua_service.specs.Message.{Message, message, is_id, id_of};
@@ -61,6 +61,19 @@ pub trait Body: Sized + Drop {
     }
 
     ghost laws: { IsLawfulMessage message };
+}
+
+/// The canonical body of a message, which is then dropped.
+///
+/// # Errors
+///
+/// `NoMemory` where a growth was refused.
+pub fn body_of<M: Body>(alloc: Global, message: M) -> Result<Vec<u8>, NoMemory>
+    ensures { IfOk result (λ body. body.items ≡ M.message.canon message) }
+{
+    let mut body = Vec::new(alloc);
+    message.write_body(&mut body)?;
+    Ok(body)
 }
 
 /// Whether it is the number in namespace 0.

@@ -6,7 +6,7 @@ ghost use Rattle.ua_service.specs.ChannelMessages.{open_message, lawful_open, op
 use crate::body::{Body, id, read_fields_of};
 use crate::headers::{RequestHeader, ResponseHeader};
 use std::alloc::Global;
-use ua_value::{DateTime, Fields, NoMemory, Parts, ReadFault, Sink, UaBytes, Wire};
+use ua_value::{DateTime, Fields, NoMemory, Parts, ReadFault, Sink, UaBytes, Wire, copy_two};
 
 const OPEN_REQUEST: u32 = 446;
 
@@ -65,12 +65,13 @@ impl Wire for OpenRequest {
     }
 
     fn copy(&self) -> Result<OpenRequest, NoMemory> {
+        let (header, client_nonce) = copy_two(&self.header, &self.client_nonce)?;
         Ok(OpenRequest {
-            header: self.header.copy()?,
+            header,
             client_protocol_version: self.client_protocol_version,
             request_type: self.request_type,
             security_mode: self.security_mode,
-            client_nonce: self.client_nonce.copy()?,
+            client_nonce,
             requested_lifetime: self.requested_lifetime,
         })
     }
@@ -166,14 +167,15 @@ impl Wire for OpenResponse {
     }
 
     fn copy(&self) -> Result<OpenResponse, NoMemory> {
+        let (header, server_nonce) = copy_two(&self.header, &self.server_nonce)?;
         Ok(OpenResponse {
-            header: self.header.copy()?,
+            header,
             server_protocol_version: self.server_protocol_version,
             channel_id: self.channel_id,
             token_id: self.token_id,
             created_at: self.created_at,
             revised_lifetime: self.revised_lifetime,
-            server_nonce: self.server_nonce.copy()?,
+            server_nonce,
         })
     }
 

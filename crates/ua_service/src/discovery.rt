@@ -6,7 +6,7 @@ use crate::application::ApplicationDescription;
 use crate::endpoint::EndpointDescription;
 use crate::headers::{RequestHeader, ResponseHeader};
 use std::alloc::Global;
-use ua_value::{Array, Fields, NoMemory, Parts, ReadFault, Sink, UaString, Wire};
+use ua_value::{Array, Fields, NoMemory, Parts, ReadFault, Sink, UaString, Wire, copy_two};
 
 /// A question for the servers that the receiver knows (OPC 10000-4 5.5.2).
 #[derive(Drop)]
@@ -44,11 +44,13 @@ impl Wire for FindServersRequest {
     }
 
     fn copy(&self) -> Result<FindServersRequest, NoMemory> {
+        let (locale_ids, server_uris) = copy_two(&self.locale_ids, &self.server_uris)?;
+        let (header, endpoint_url) = copy_two(&self.header, &self.endpoint_url)?;
         Ok(FindServersRequest {
-            header: self.header.copy()?,
-            endpoint_url: self.endpoint_url.copy()?,
-            locale_ids: self.locale_ids.copy()?,
-            server_uris: self.server_uris.copy()?,
+            header,
+            endpoint_url,
+            locale_ids,
+            server_uris,
         })
     }
 
@@ -95,10 +97,8 @@ impl Wire for FindServersResponse {
     }
 
     fn copy(&self) -> Result<FindServersResponse, NoMemory> {
-        Ok(FindServersResponse {
-            header: self.header.copy()?,
-            servers: self.servers.copy()?,
-        })
+        let (header, servers) = copy_two(&self.header, &self.servers)?;
+        Ok(FindServersResponse { header, servers })
     }
 
     fn read_front(alloc: Global, input: &[u8]) -> Result<(FindServersResponse, &[u8]), ReadFault> {
@@ -150,11 +150,13 @@ impl Wire for GetEndpointsRequest {
     }
 
     fn copy(&self) -> Result<GetEndpointsRequest, NoMemory> {
+        let (locale_ids, profile_uris) = copy_two(&self.locale_ids, &self.profile_uris)?;
+        let (header, endpoint_url) = copy_two(&self.header, &self.endpoint_url)?;
         Ok(GetEndpointsRequest {
-            header: self.header.copy()?,
-            endpoint_url: self.endpoint_url.copy()?,
-            locale_ids: self.locale_ids.copy()?,
-            profile_uris: self.profile_uris.copy()?,
+            header,
+            endpoint_url,
+            locale_ids,
+            profile_uris,
         })
     }
 
@@ -201,10 +203,8 @@ impl Wire for GetEndpointsResponse {
     }
 
     fn copy(&self) -> Result<GetEndpointsResponse, NoMemory> {
-        Ok(GetEndpointsResponse {
-            header: self.header.copy()?,
-            endpoints: self.endpoints.copy()?,
-        })
+        let (header, endpoints) = copy_two(&self.header, &self.endpoints)?;
+        Ok(GetEndpointsResponse { header, endpoints })
     }
 
     fn read_front(alloc: Global, input: &[u8]) -> Result<(GetEndpointsResponse, &[u8]), ReadFault> {

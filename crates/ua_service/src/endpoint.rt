@@ -4,7 +4,9 @@ ghost use Rattle.ua_service.specs.Endpoint.{user_token_policy, lawful_user_token
 
 use crate::application::ApplicationDescription;
 use std::alloc::Global;
-use ua_value::{Array, Fields, NoMemory, Parts, ReadFault, Sink, UaBytes, UaString, Wire};
+use ua_value::{
+    Array, Fields, NoMemory, Parts, ReadFault, Sink, UaBytes, UaString, Wire, copy_three, copy_two,
+};
 
 /// A kind of user identity that an endpoint takes (OPC 10000-4 7.42).
 #[derive(Drop)]
@@ -52,12 +54,17 @@ impl Wire for UserTokenPolicy {
     }
 
     fn copy(&self) -> Result<UserTokenPolicy, NoMemory> {
+        let (policy_id, issued_token_type) = copy_two(&self.policy_id, &self.issued_token_type)?;
+        let (issuer_endpoint_url, security_policy_uri) = copy_two(
+            &self.issuer_endpoint_url,
+            &self.security_policy_uri,
+        )?;
         Ok(UserTokenPolicy {
-            policy_id: self.policy_id.copy()?,
+            policy_id,
             token_type: self.token_type,
-            issued_token_type: self.issued_token_type.copy()?,
-            issuer_endpoint_url: self.issuer_endpoint_url.copy()?,
-            security_policy_uri: self.security_policy_uri.copy()?,
+            issued_token_type,
+            issuer_endpoint_url,
+            security_policy_uri,
         })
     }
 
@@ -164,14 +171,24 @@ impl Wire for EndpointDescription {
     }
 
     fn copy(&self) -> Result<EndpointDescription, NoMemory> {
+        let (security_policy_uri, user_identity_tokens, transport_profile_uri) = copy_three(
+            &self.security_policy_uri,
+            &self.user_identity_tokens,
+            &self.transport_profile_uri,
+        )?;
+        let (endpoint_url, server, server_certificate) = copy_three(
+            &self.endpoint_url,
+            &self.server,
+            &self.server_certificate,
+        )?;
         Ok(EndpointDescription {
-            endpoint_url: self.endpoint_url.copy()?,
-            server: self.server.copy()?,
-            server_certificate: self.server_certificate.copy()?,
+            endpoint_url,
+            server,
+            server_certificate,
             security_mode: self.security_mode,
-            security_policy_uri: self.security_policy_uri.copy()?,
-            user_identity_tokens: self.user_identity_tokens.copy()?,
-            transport_profile_uri: self.transport_profile_uri.copy()?,
+            security_policy_uri,
+            user_identity_tokens,
+            transport_profile_uri,
             security_level: self.security_level,
         })
     }

@@ -6,7 +6,7 @@ ghost use Rattle.ua_service.specs.Headers.{request_header, lawful_request_header
 use std::alloc::Global;
 use ua_value::{
     Array, DateTime, Fields, Identifier, NoMemory, NodeId, Parts, ReadFault, Sink, StatusCode,
-    UaString, Wire,
+    UaString, Wire, copy_three,
 };
 use ua_variant::{DiagnosticInfo, ExtensionBody, ExtensionObject};
 
@@ -71,14 +71,19 @@ impl Wire for RequestHeader {
     }
 
     fn copy(&self) -> Result<RequestHeader, NoMemory> {
+        let (authentication_token, audit_entry_id, additional_header) = copy_three(
+            &self.authentication_token,
+            &self.audit_entry_id,
+            &self.additional_header,
+        )?;
         Ok(RequestHeader {
-            authentication_token: self.authentication_token.copy()?,
+            authentication_token,
             timestamp: self.timestamp,
             request_handle: self.request_handle,
             return_diagnostics: self.return_diagnostics,
-            audit_entry_id: self.audit_entry_id.copy()?,
+            audit_entry_id,
             timeout_hint: self.timeout_hint,
-            additional_header: self.additional_header.copy()?,
+            additional_header,
         })
     }
 
@@ -181,13 +186,18 @@ impl Wire for ResponseHeader {
     }
 
     fn copy(&self) -> Result<ResponseHeader, NoMemory> {
+        let (service_diagnostics, string_table, additional_header) = copy_three(
+            &self.service_diagnostics,
+            &self.string_table,
+            &self.additional_header,
+        )?;
         Ok(ResponseHeader {
             timestamp: self.timestamp,
             request_handle: self.request_handle,
             service_result: self.service_result,
-            service_diagnostics: self.service_diagnostics.copy()?,
-            string_table: self.string_table.copy()?,
-            additional_header: self.additional_header.copy()?,
+            service_diagnostics,
+            string_table,
+            additional_header,
         })
     }
 

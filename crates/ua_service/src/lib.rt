@@ -16,7 +16,7 @@ mod response;
 mod tests;
 
 pub use application::ApplicationDescription;
-pub use body::Body;
+pub use body::{Body, body_of};
 pub use channel::{CloseRequest, OpenRequest, OpenResponse};
 pub use discovery::{
     FindServersRequest, FindServersResponse, GetEndpointsRequest, GetEndpointsResponse,

@@ -75,10 +75,13 @@ impl OtherRequest {
     pub(crate) fn copy(&self) -> Result<OtherRequest, NoMemory>
         ensures { IfOk result (λ v. v ≡ self.now) }
     {
+        let type_id = self.type_id.copy()?;
+        let rest = self.rest.clone()?;
+        let header = self.header.copy()?;
         Ok(OtherRequest {
-            type_id: self.type_id.copy()?,
-            header: self.header.copy()?,
-            rest: self.rest.clone()?,
+            type_id,
+            header,
+            rest,
         })
     }
 

@@ -14,8 +14,9 @@ use std::marker::Model;
 /// The greatest length of a text, a byte string or an array.
 pub(crate) const LONGEST: u32 = 2147483647;
 
-/// The ByteString at the front, and what follows it.
-pub(crate) fn bytes_front(input: &[u8]) -> Option<(Option<&[u8]>, &[u8])>
+/// The ByteString at the front, lent from the bytes, and what follows it. `None` where no beginning of the bytes spells one: they end before it does,
+/// or its length is below -1.
+pub fn bytes_front(input: &[u8]) -> Option<(Option<&[u8]>, &[u8])>
     ensures front { option_map (λ p. (option_copied p.0, p.1.now)) result ≡ byte_string.grammar.front input.now }
     ensures shorter { IfSome result (λ p. length p.1.now ≤ length input.now) }
 {

@@ -92,6 +92,28 @@ impl<'a, T: Wire, P: Parts> Parts for (&'a T, P) {
     }
 }
 
+/// Copies of two values, or none where memory runs out.
+pub fn copy_two<A: Wire, B: Wire>(first: &A, second: &B) -> Result<(A, B), NoMemory>
+    ensures { IfOk result (λ c. c ≡ (first.now, second.now)) }
+{
+    let first = first.copy()?;
+    let second = second.copy()?;
+    Ok((first, second))
+}
+
+/// Copies of three values, or none where memory runs out.
+pub fn copy_three<A: Wire, B: Wire, C: Wire>(
+    first: &A,
+    second: &B,
+    third: &C,
+) -> Result<(A, B, C), NoMemory>
+    ensures { IfOk result (λ c. c ≡ (first.now, second.now, third.now)) }
+{
+    let first = first.copy()?;
+    let (second, third) = copy_two(second, third)?;
+    Ok((first, second, third))
+}
+
 /// The value that the whole bytes spell. `Refused` where they spell none, or where bytes are left over.
 pub fn read_whole<T: Fields>(alloc: Global, input: &[u8]) -> Result<T, ReadFault>
     requires { length input.now ≤ input_limit }

@@ -22,8 +22,8 @@ pub fn peek_u32(input: &[u8]) -> Option<u32>
     }
 }
 
-/// The UInt32 at the front, and what follows it.
-pub(crate) fn front_u32(input: &[u8]) -> Option<(u32, &[u8])>
+/// The UInt32 at the front, and what follows it. `None` where there are less than four bytes.
+pub fn front_u32(input: &[u8]) -> Option<(u32, &[u8])>
     ensures front { option_map (λ p. (p.0, p.1.now)) result ≡ (unsigned w32).grammar.front input.now }
     ensures shorter { IfSome result (λ p. length p.1.now ≤ length input.now) }
 {

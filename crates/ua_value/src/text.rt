@@ -42,8 +42,9 @@ fn text_of(bytes: &[u8]) -> Option<&str>
     }
 }
 
-/// The String at the front, and what follows it.
-pub(crate) fn string_front(input: &[u8]) -> Option<(Option<&str>, &[u8])>
+/// The String at the front, lent from the bytes, and what follows it. `None` where no beginning of the bytes spells one: they end before it does, its
+/// length is below -1, or it is not UTF-8.
+pub fn string_front(input: &[u8]) -> Option<(Option<&str>, &[u8])>
     ensures front { option_map (λ p. (option_copied p.0, p.1.now)) result ≡ string.grammar.front input.now }
     ensures shorter { IfSome result (λ p. length p.1.now ≤ length input.now) }
 {

@@ -2,7 +2,7 @@
 
 ghost use Rattle.std.specs.Prelude.{◌≡◌, ◌≤◌, length, IfOk};
 ghost use Rattle.ua_value.specs.Format.{Gives, input_limit};
-ghost use Rattle.ua_variant.specs.Kinds.{plain};
+ghost use Rattle.ua_variant.specs.Kinds.{plain, kind_number};
 ghost use Rattle.ua_variant.specs.Values.{kind, element_depth, deepest};
 ghost use Rattle.ua_variant.specs.Spelling.{IsSoundElement};
 ghost use Rattle.ua_variant.specs.Reading.{leaves};
@@ -158,6 +158,18 @@ pub(crate) fn leaf_front(
             let (value, rest) = DoubleBits::read_front(alloc, input)?;
             Ok((Element::Double(value), rest))
         }
+        _ => text_front(alloc, kind, input),
+    }
+}
+
+/// The same of a kind that is no number.
+fn text_front(alloc: Global, kind: Kind, input: &[u8]) -> Result<(Element, &[u8]), ReadFault>
+    requires input { length input.now ≤ input_limit }
+    requires kind { 12 ≤ kind_number (kind_of kind) }
+    ensures gives { Gives (λ x. (element x.0, x.1.now)) result ((leaves (kind_of kind)).front input.now) }
+    ensures shorter { IfOk result (λ x. length x.1.now ≤ length input.now) }
+{
+    match kind {
         Kind::String => {
             let (value, rest) = UaString::read_front(alloc, input)?;
             Ok((Element::String(value), rest))
@@ -178,6 +190,18 @@ pub(crate) fn leaf_front(
             let (value, rest) = XmlElement::read_front(alloc, input)?;
             Ok((Element::XmlElement(value), rest))
         }
+        _ => name_front(alloc, kind, input),
+    }
+}
+
+/// The same of a kind that is neither a number nor a plain text.
+fn name_front(alloc: Global, kind: Kind, input: &[u8]) -> Result<(Element, &[u8]), ReadFault>
+    requires input { length input.now ≤ input_limit }
+    requires kind { 17 ≤ kind_number (kind_of kind) }
+    ensures gives { Gives (λ x. (element x.0, x.1.now)) result ((leaves (kind_of kind)).front input.now) }
+    ensures shorter { IfOk result (λ x. length x.1.now ≤ length input.now) }
+{
+    match kind {
         Kind::NodeId => {
             let (value, rest) = NodeId::read_front(alloc, input)?;
             Ok((Element::NodeId(value), rest))
@@ -202,6 +226,6 @@ pub(crate) fn leaf_front(
             let (value, rest) = ExtensionObject::read_front(alloc, input)?;
             Ok((Element::ExtensionObject(value), rest))
         }
-        Kind::DataValue | Kind::Variant | Kind::DiagnosticInfo => Err(ReadFault::Refused),
+        _ => Err(ReadFault::Refused),
     }
 }

@@ -1,11 +1,12 @@
 //! The parts of requests, and what is said to a whole one.
 
-ghost use Rattle.std.specs.Prelude.{◌≡◌, ◌<◌, ◌≤◌, ◌^◌, ◌++◌, length, false, is_ok, if◌then◌else◌};
+ghost use Rattle.std.specs.Prelude.{◌≡◌, ◌<◌, ◌≤◌, ◌^◌, ◌++◌, ◌∷◌, [], length, false, is_ok, if◌then◌else◌, IfOk, OnOk, OnErr};
 ghost use Rattle.ua_frame.specs.declared.kind.Kind.TheVariants as kinds;
 ghost use Rattle.ua_chunk.specs.Layout.{chunk_of};
 ghost use Rattle.ua_chunk.specs.Numbers.{number_after};
 ghost use Rattle.ua_chunk.specs.NumberLaws.{IsNumber};
 ghost use Rattle.ua_chunk.specs.Written.{message_frames};
+ghost use Rattle.ua_conn.specs.Answers.{answer_body};
 ghost use Rattle.ua_conn.specs.Ranges.{IsBuffer};
 ghost use Rattle.ua_conn.specs.Replies.{is_over as passes, is_over_limits, answer_parts};
 ghost use Rattle.ua_conn.specs.Effects.{message_effect, Does, Judges};
@@ -19,6 +20,7 @@ use crate::fault::Fault;
 use crate::status::BAD_RESPONSE_TOO_LARGE;
 use std::alloc::Global;
 use ua_chunk::{Added, Assembly, Chunk, Head, Sequence, chunk_count, write_abort, write_chunks};
+use ua_disco::Settings;
 use ua_frame::{Frame, Kind};
 use ua_service::{Request, read_request};
 use ua_value::NoMemory;
@@ -90,6 +92,24 @@ fn say(
     write_chunks(body, head, agreed.ack.send - CHUNK_HEADER, next, out)
 }
 
+/// Hands a request on. The result is the body of the answer to it.
+fn hand_on(
+    alloc: Global,
+    settings: &Settings,
+    request: Request,
+    now: u64,
+    asked: &mut Vec<Request>,
+) -> Result<Vec<u8>, NoMemory>
+    requires { now < 2 ^ 63 }
+    ensures body { IfOk result (λ body. body.items ≡ answer_body settings.now request now) }
+    ensures asked { OnOk result (asked.new.items ≡ asked.old.items ++ request ∷ []) }
+    ensures kept { OnErr result (asked.new.items ≡ asked.old.items) }
+{
+    let body = answer_body(alloc, settings, &request, now)?;
+    asked.push(request)?;
+    Ok(body)
+}
+
 impl<'a> Connection<'a> {
     /// Takes a part of a request, and answers a whole one. OPC 10000-6, 6.7.2 and 6.7.3; OPC 10000-4, 7.35.
     pub(crate) fn message(
@@ -110,8 +130,7 @@ impl<'a> Connection<'a> {
         let Some(request) = gather(self.alloc, &mut self.half, &chunk)? else {
             return Ok(());
         };
-        let body = answer_body(self.alloc, self.settings, &request, now)?;
-        asked.push(request)?;
+        let body = hand_on(self.alloc, self.settings, request, now, asked)?;
         if let Some(agreed) = self.agreed {
             let head = Head {
                 channel: self.id,

@@ -19,7 +19,7 @@ use ua_channel::{Issued, ServerChannel};
 use ua_chunk::{Assembly, OpenChunk, Sequence, open_chunk, write_open};
 use ua_frame::status::BAD_TCP_MESSAGE_TYPE_INVALID;
 use ua_frame::{Frame, Kind};
-use ua_service::{Body, OpenResponse, read_open, response_header};
+use ua_service::{OpenResponse, body_of, read_open, response_header};
 use ua_value::{DateTime, NoMemory, UaBytes};
 
 /// The status of what went well.
@@ -100,9 +100,7 @@ fn opened_body(alloc: Global, channel: u32, granted: Granted, now: u64) -> Resul
         revised_lifetime: granted.lifetime,
         server_nonce: UaBytes::null(),
     };
-    let mut body = Vec::new(alloc);
-    response.write_body(&mut body)?;
-    Ok(body)
+    body_of(alloc, response)
 }
 
 impl<'a> Connection<'a> {

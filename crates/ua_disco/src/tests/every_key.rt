@@ -136,11 +136,14 @@ names = [{ text = "" }]
 send = 8192
 "#;
 
+fn has_no_url(rt: &impl Abort, settings: &Settings) {
+    assert!(rt; settings.first_url().is_none());
+}
+
 #[test]
 fn settings_without_endpoints_have_no_url(rt: HostRuntime) -> Result<(), Fail> {
-    let alloc = rt.alloc();
-    let settings = Settings::from_toml(alloc, SOME_KEYS.as_bytes())?;
-    assert!(&rt; settings.first_url().is_none());
+    let settings = Settings::from_toml(rt.alloc(), SOME_KEYS.as_bytes())?;
+    has_no_url(&rt, &settings);
     let limits = Limits {
         receive: 65535,
         send: 8192,
@@ -148,6 +151,12 @@ fn settings_without_endpoints_have_no_url(rt: HostRuntime) -> Result<(), Fail> {
         max_chunks: 64,
     };
     has_limits(&rt, &settings, limits);
+    Ok(())
+}
+
+#[test]
+fn settings_without_endpoints_answer_with_none(rt: HostRuntime) -> Result<(), Fail> {
+    let alloc = rt.alloc();
     let request = asking(alloc, ENDPOINTS, NULL, NULL)?;
     let answer = joined(alloc, &[ENDPOINTS_FOUND, EMPTY])?;
     answers_at(&rt, alloc, SOME_KEYS, 0, &request, &answer)

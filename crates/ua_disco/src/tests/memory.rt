@@ -20,7 +20,7 @@ fn answer_or_no_memory(
 ) {
     assert!(rt; request.len() <= 1000);
     if let Ok(request) = read_request(alloc, request) {
-        if let Ok(body) = answer_written(alloc, settings, &request, 0) {
+        if let Ok(body) = answer_written(alloc, settings, request, 0) {
             assert_eq!(rt; body.as_slice(), answer);
         }
     }

@@ -1,5 +1,5 @@
 use super::*;
-use std::alloc::AllocError;
+use std::alloc::{AllocError, Global};
 use std::process::Abort;
 use std::test::Fail;
 use std::{fs, io};
