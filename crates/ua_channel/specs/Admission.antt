@@ -49,10 +49,13 @@ issue_rows c request =
     ∷ (nat_le 4294967295 (newest_id c.tokens), 0x80810000)
     ∷ []
 
--- a MSG or CLO: message channel, token, message sequence number
-abbrev pub admit_rows : Channel → Chunk → ℕ → List Row
-admit_rows c chunk now =
+-- A MSG or CLO: message channel, token, message sequence number. Whether its token is usable is said apart.
+abbrev pub admit_rows_by : Channel → Chunk → Bool → List Row
+admit_rows_by c chunk usable =
     (not (chunk.channel == c.id), 0x807F0000)
-    ∷ (not (is_usable c.tokens chunk.token now), 0x80870000)
+    ∷ (not usable, 0x80870000)
     ∷ (not (follows_last c.last chunk.sequence), 0x80880000)
     ∷ []
+
+abbrev pub admit_rows : Channel → Chunk → ℕ → List Row
+admit_rows c chunk now = admit_rows_by c chunk (is_usable c.tokens chunk.token now)

@@ -2,3 +2,4 @@ pub mod Token
 pub mod Newest
 pub mod Channel
 pub mod Admission
+pub mod ClientChannel

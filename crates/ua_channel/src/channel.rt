@@ -8,7 +8,7 @@ ghost use Rattle.ua_channel.specs.Channel.{new_channel, numbered, renewed, heard
 ghost use Rattle.ua_channel.specs.Admission.{admit_open_rows, issue_rows, admit_rows};
 
 use crate::newest::Newest;
-use crate::rules::{follows_last, is_policy_none};
+use crate::rules::{follows_last, is_policy_none, later};
 use crate::status::{
     BAD_REQUEST_TYPE_INVALID, BAD_SECURE_CHANNEL_TOKEN_UNKNOWN, BAD_SECURITY_MODE_REJECTED,
     BAD_SECURITY_POLICY_REJECTED, BAD_SEQUENCE_NUMBER_INVALID, BAD_TCP_NOT_ENOUGH_RESOURCES,
@@ -187,16 +187,6 @@ impl ServerChannel {
         ensures { result ≡ self.now.channel.used }
     {
         self.used
-    }
-}
-
-/// The greatest of 0, the moment that came and the one before.
-fn later(before: u64, now: i64) -> u64
-    ensures { result ≡ max before (moment_of now) }
-{
-    match u64::try_from(now) {
-        Ok(now) => before.max(now),
-        Err(_) => before,
     }
 }
 

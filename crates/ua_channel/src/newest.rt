@@ -1,6 +1,7 @@
 //! The tokens that a channel knows.
 
 ghost use Rattle.std.specs.Prelude.{◌≡◌, ◌∷◌, ◌==◌, length};
+ghost use Rattle.ua_channel.specs.ClientChannel.{first_token};
 ghost use Rattle.ua_channel.specs.Token.{newest_id, is_usable, two_newest};
 ghost use Rattle.ua_channel.specs.Newest.{tokens_of};
 
@@ -28,6 +29,15 @@ impl Newest {
         match self {
             Newest::None => 0,
             Newest::One(newest) | Newest::Two(newest, _) => newest.id,
+        }
+    }
+
+    pub(crate) fn newest(self) -> Option<Token>
+        ensures { result ≡ first_token (tokens_of self) }
+    {
+        match self {
+            Newest::None => None,
+            Newest::One(newest) | Newest::Two(newest, _) => Some(newest),
         }
     }
 

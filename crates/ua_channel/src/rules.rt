@@ -1,9 +1,10 @@
 //! Single tests of a frame's fields.
 
-ghost use Rattle.std.specs.Prelude.{◌≡◌, option_copied};
+ghost use Rattle.std.specs.Prelude.{◌≡◌, max, option_copied};
 ghost use Rattle.std.specs.Str.{bytes_eq};
 ghost use Rattle.ua_channel.specs.Admission.{follows_last, is_text};
 ghost use Rattle.ua_chunk.specs.Layout.{policy_none};
+ghost use Rattle.ua_frame.specs.Streams.{moment_of};
 
 use ua_chunk::{POLICY_NONE, follows};
 
@@ -31,5 +32,15 @@ pub(crate) fn follows_last(last: Option<u32>, number: u32) -> bool
     match last {
         None => true,
         Some(last) => follows(last, number),
+    }
+}
+
+/// The greatest of 0, the moment that came and the one before.
+pub(crate) fn later(before: u64, now: i64) -> u64
+    ensures { result ≡ max before (moment_of now) }
+{
+    match u64::try_from(now) {
+        Ok(now) => before.max(now),
+        Err(_) => before,
     }
 }

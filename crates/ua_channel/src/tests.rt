@@ -14,6 +14,8 @@ use ua_service::{OpenRequest, RequestHeader};
 use ua_value::{DateTime, Identifier, NodeId, UaBytes, UaString};
 use ua_variant::{ExtensionBody, ExtensionObject};
 
+mod client;
+
 const NONE: &str = "http://opcfoundation.org/UA/SecurityPolicy#None";
 
 const SIGNED: &str = "http://opcfoundation.org/UA/SecurityPolicy#Basic256Sha256";

@@ -2,6 +2,7 @@
 
 ghost use Rattle.std.specs.Prelude.{◌≡◌, ◌<◌};
 ghost use Rattle.ua_channel.specs.Token.{revised, is_alive};
+ghost use Rattle.ua_channel.specs.ClientChannel.{is_due};
 
 /// A token that a channel issued.
 #[derive(Clone, Copy, Debug, PartialEq, Eq)]
@@ -29,6 +30,14 @@ impl Token {
     {
         let lifetime = u64::from(self.lifetime) * TICKS_PER_MILLISECOND;
         now.saturating_sub(self.issued) < lifetime + lifetime / 4
+    }
+
+    /// Whether the token is to be renewed at the moment `now`, in ticks: three quarters of its lifetime are over.
+    pub fn is_due(&self, now: u64) -> bool
+        ensures { result ≡ is_due self.now now }
+    {
+        let lifetime = u64::from(self.lifetime) * TICKS_PER_MILLISECOND;
+        now.saturating_sub(self.issued) / 3 >= lifetime / 4
     }
 }
 

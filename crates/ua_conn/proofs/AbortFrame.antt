@@ -21,7 +21,7 @@ use Rattle.ua_conn.specs.Past.{Past, Known, known, has_number, is_open, carried,
 use Rattle.ua_conn.specs.Faults.{greatest_frame}
 use Rattle.ua_conn.specs.Legal.{IsChunk, CanDrop}
 use Rattle.ua_conn.specs.Machine.{known_after}
-use Rattle.ua_conn.proofs.Step.{known_step}
+use Rattle.ua_conn.proofs.KnownStep.{known_step}
 use Rattle.ua_conn.proofs.Ready.{msg_tokens, msg_limits}
 use Rattle.ua_conn.proofs.RowsTell.{is_equal}
 

@@ -13,7 +13,7 @@ use Rattle.ua_conn.specs.Faults.{is_allowed, greatest_frame}
 use Rattle.ua_conn.specs.Held.{newest_first}
 use Rattle.ua_conn.specs.Legal.{joined_body}
 use Rattle.ua_conn.specs.Machine.{known_after, token_after, half_then}
-use Rattle.ua_conn.proofs.Step.{known_step}
+use Rattle.ua_conn.proofs.KnownStep.{known_step}
 use Rattle.ua_conn.proofs.RowsTell.{is_equal}
 
 -- the half received message of these parts

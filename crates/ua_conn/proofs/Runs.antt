@@ -9,7 +9,7 @@ use Rattle.ua_conn.specs.Replies.{Failed, Reading, reading, failing, replies, re
 use Rattle.ua_conn.specs.Held.{newest_first, stop}
 use Rattle.ua_conn.specs.Machine.{Run, run, behind, known_after}
 use Rattle.ua_conn.specs.declared.outcome.End.TheVariants.{Closed, Refused}
-use Rattle.ua_conn.proofs.Step.{known_step}
+use Rattle.ua_conn.proofs.KnownStep.{known_step}
 
 -- what the run brings is what the reading has past `past`
 pub record IsRun (site : Site) (past : Past) (fs : List Frame) (R : Reading) (r : Run) : Type 0 where

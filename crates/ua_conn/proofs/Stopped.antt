@@ -11,7 +11,7 @@ use Rattle.ua_frame.specs.HeaderLaws.{header_fault_take, header_fault_stays}
 use Rattle.ua_conn.specs.Site.{Site}
 use Rattle.ua_conn.specs.Past.{Past, Known, known, is_close}
 use Rattle.ua_conn.specs.Faults.{fault_at, fault_in_rest, greatest_frame, frame_rows}
-use Rattle.ua_conn.specs.Replies.{Reading, reading, reading_of, ended, replies, requests, failing, spelled_all}
+use Rattle.ua_conn.specs.Replies.{Reading, reading, reading_of, ended, replies, requests, failing, spelled_all, end_of}
 use Rattle.ua_conn.specs.Held.{stop}
 use Rattle.ua_conn.specs.Whole.{StaysStopped}
 use Rattle.ua_conn.specs.declared.outcome.End.{End}
@@ -95,19 +95,21 @@ bad_reading site past s status h = by_sizes (cases_lt (size_of (plain s)) 8) (ca
     by_sizes (inl small) b = none (λ n le is. (let z = size_at n le is in omega (arith, small, z.0, z.1)))
     by_sizes (inr low) (inl long) = none (λ n le is. (let z = size_at n le is in omega (arith, long, le, length_plain s, z.1)))
 
-pub stays : StaysStopped
-stays site ps qs e h =
-    let s = timed ps in
-    let t = timed_since (latest_since 0 ps) qs in
+-- a stream with a fault or a CLO, read with what comes later
+pub reading_stays : (site : Site) (s t : List TimedByte) (e : End) → stop (end_of site s) ≡ Some e → reading_of site (s ++ t) ≡ reading_of site s
+reading_stays site s t e h =
     let more = framed_more s t in
-    let all : reading_of site (timed (ps ++ qs)) ≡ reading_of site s =
-    ap (reading_of site) (timed_append 0 ps qs)
-    ∙ (λ i. reading site [] (map frame_by (more.0 i)) (plain (more.1 i)))
+    (λ i. reading site [] (map frame_by (more.0 i)) (plain (more.1 i)))
     ∙ (λ i. reading site [] (map-append frame_by (cuts_of s) (cuts_of (rest_of s ++ t)) i) (plain (rest_of (rest_of s ++ t))))
     ∙ later_reading site [] (frames_of s) (frames_of (rest_of s ++ t)) (plain (rest_of s)) (plain (rest_of (rest_of s ++ t))) e
     (λ k status f past same. bad_reading site past (rest_of s ++ t) status
     (ap (fault_in_rest (known site past)) (map-append _ (rest_of s) t) ∙ rest_more (known site past) (plain (rest_of s)) (plain t) status (ap (λ k. fault_in_rest k (plain (rest_of s))) same ∙ f)))
-    h in (
+    h
+
+pub stays : StaysStopped
+stays site ps qs e h =
+    let all : reading_of site (timed (ps ++ qs)) ≡ reading_of site (timed ps) =
+    ap (reading_of site) (timed_append 0 ps qs) ∙ reading_stays site (timed ps) (timed_since (latest_since 0 ps) qs) e h in (
       (λ i. spelled_all site 0 (replies site (all i).past ++ failing (all i).ending)),
       (λ i. requests site (all i).past),
       (λ i. (all i).ending),

@@ -8,8 +8,9 @@ use Rattle.ua_frame.specs.declared.kind.Kind.{Kind}
 use Rattle.ua_frame.specs.declared.kind.Kind.TheVariants as kinds
 use Rattle.ua_chunk.specs.Layout.{OpenChunk, Chunk, chunk_of}
 use Rattle.ua_chunk.specs.Half.{body_of, part_rows}
+use Rattle.ua_channel.specs.Token.{is_usable}
 use Rattle.ua_channel.specs.Channel.{Channel}
-use Rattle.ua_channel.specs.Admission.{admit_open_rows, issue_rows, admit_rows}
+use Rattle.ua_channel.specs.Admission.{admit_open_rows, issue_rows, admit_rows_by}
 use Rattle.ua_service.specs.declared.channel.OpenRequest.{OpenRequest}
 use Rattle.ua_conn.specs.Site.{Site}
 use Rattle.ua_conn.specs.Past.{Known, Agreed, is_hello, is_open, has_number, hello_in, open_in, carried}
@@ -51,11 +52,18 @@ open_rows site k (Some opening) =
 
 -- ---- a MSG or CLO
 
--- message layout; message channel, token, message sequence number
-abbrev pub chunk_rows : Site → Known → Frame → List Row
-chunk_rows site k f =
+-- its token is one of the two newest, and alive at its moment
+abbrev pub names_usable : Known → Frame → Bool
+names_usable k f = is_usable k.tokens (carried f).token f.moment
+
+-- message layout; message channel, token, message sequence number. Whether its token is usable is said apart.
+abbrev pub chunk_rows_by : Site → Known → Frame → Bool → List Row
+chunk_rows_by site k f usable =
     (is_none (chunk_of (fields_of f.bytes)), 0x80070000)
-    ∷ admit_rows (channel_of site k) (carried f) f.moment
+    ∷ admit_rows_by (channel_of site k) (carried f) usable
+
+abbrev pub chunk_rows : Site → Known → Frame → List Row
+chunk_rows site k f = chunk_rows_by site k f (names_usable k f)
 
 -- Other request id, message too large, and of message body an abort's; then, of message body, a whole request's.
 abbrev pub message_rows : Site → Known → ℕ → Chunk → List Row
@@ -71,16 +79,27 @@ close_rows chunk = (is_none (close_of chunk.body), 0x80070000) ∷ []
 -- ---- the table
 
 -- the rows of the frame's type; of a Hello: hello layout, url too long, buffer too small
+abbrev pub type_rows_by : Site → Known → Frame → Bool → ℕ → Option Kind → List Row
+type_rows_by site k f usable flag (Some kinds.Hello) = hello_rows (hello_in f)
+type_rows_by site k f usable flag (Some kinds.Open) = open_rows site k (open_in f)
+type_rows_by site k f usable flag (Some kinds.Message) = chunk_rows_by site k f usable ++ message_rows site k flag (carried f)
+type_rows_by site k f usable flag (Some kinds.Close) = chunk_rows_by site k f usable ++ close_rows (carried f)
+type_rows_by site k f usable flag kind = []
+
 abbrev pub type_rows : Site → Known → Frame → ℕ → Option Kind → List Row
-type_rows site k f flag (Some kinds.Hello) = hello_rows (hello_in f)
-type_rows site k f flag (Some kinds.Open) = open_rows site k (open_in f)
-type_rows site k f flag (Some kinds.Message) = chunk_rows site k f ++ message_rows site k flag (carried f)
-type_rows site k f flag (Some kinds.Close) = chunk_rows site k f ++ close_rows (carried f)
-type_rows site k f flag kind = []
+type_rows site k f flag kind = type_rows_by site k f (names_usable k f) flag kind
 
 -- type out of turn, and the rows of the type
+abbrev pub frame_rows_by : Site → Known → Frame → Bool → Option Kind → ℕ → List Row
+frame_rows_by site k f usable kind flag = (not (is_allowed k kind), 0x807E0000) ∷ type_rows_by site k f usable flag kind
+
 abbrev pub frame_rows : Site → Known → Frame → Option Kind → ℕ → List Row
-frame_rows site k f kind flag = (not (is_allowed k kind), 0x807E0000) ∷ type_rows site k f flag kind
+frame_rows site k f kind flag = frame_rows_by site k f (names_usable k f) kind flag
+
+-- The whole table, with what is said of the token in the place of its test.
+unfoldable pub fault_by : Site → Known → Frame → Bool → Option ℕ
+fault_by site k f usable =
+    or_else (header_fault (greatest_frame k.limits) f.bytes) (first_row (frame_rows_by site k f usable (kind_of f.bytes) (flag_of f.bytes)))
 
 -- The whole table, at a whole frame: unknown type, wrong flag, size under a header, size over the limit, and then the rows above.
 unfoldable pub fault_at : Site → Known → Frame → Option ℕ

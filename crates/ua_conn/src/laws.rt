@@ -4,6 +4,9 @@ ghost use Rattle.std.specs.Prelude.{◌≡◌, List};
 ghost use Rattle.ua_frame.specs.Streams.{TimedByte, Framed, cuts_of, rest_of};
 ghost use Rattle.ua_conn.specs.FirstFault.{StopsFirst};
 ghost use Rattle.ua_conn.specs.Held.{ByRecord};
+ghost use Rattle.ua_conn.specs.Asking.{in_flight};
+ghost use Rattle.ua_conn.specs.ClientHeld.{ClientByRecord, RefusedByRecord};
+ghost use Rattle.ua_conn.specs.BothEnds.{Faithful};
 ghost use Rattle.ua_conn.specs.Legal.{HasRoom, BeginsLegal};
 ghost use Rattle.ua_conn.specs.Site.{Site};
 ghost use Rattle.ua_conn.specs.Whole.{StaysStopped, SameForAnyCut};
@@ -40,4 +43,22 @@ pub fn same_for_any_cut()
 /// where the list is a beginning of what a client may send.
 pub fn legal()
     ensures { (site : Site) → HasRoom site → BeginsLegal site }
+{}
+
+/// What one more piece, or one more command that is accepted, brings to a client that has not failed depends on the
+/// record of what it holds and the event alone: the bytes that it sends, the answers, the fault, and the record then.
+pub fn client_by_record()
+    ensures { ClientByRecord in_flight }
+{}
+
+/// Whether a client refuses a command, and for which reason, depends on the record of what it holds and the command
+/// alone.
+pub fn refused_by_record()
+    ensures { RefusedByRecord in_flight }
+{}
+
+/// After every schedule, what was delivered to the server is a beginning of what the client sent, and what was
+/// delivered to the client a beginning of what the server answered.
+pub fn faithful()
+    ensures { Faithful in_flight }
 {}

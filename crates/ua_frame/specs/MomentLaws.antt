@@ -109,7 +109,7 @@ first_alike r m b z k e pos le =
     )
 
 -- bytes behind a rest make the same frames as if the rest had come with them
-rest_retimed : (r : List TimedByte) (m : ℕ) (b : List ℕ) → ((n : ℕ) → n ≤ length r → IsFrame (plain (take n r)) → ⊥) →
+pub rest_retimed : (r : List TimedByte) (m : ℕ) (b : List ℕ) → ((n : ℕ) → n ≤ length r → IsFrame (plain (take n r)) → ⊥) →
     (frames_of (r ++ map (at m) b) ≡ frames_of (map (at m) (plain r ++ b))) × (plain (rest_of (r ++ map (at m) b)) ≡ plain (rest_of (map (at m) (plain r ++ b))))
 rest_retimed r m b p =
     let s = r ++ map (at m) b in

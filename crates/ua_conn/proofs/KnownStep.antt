@@ -15,11 +15,11 @@ pub same_known : {a a' : Option Agreed} {b b' : List Token} {c c' : Option ℕ} 
     (let k : Known = record { limits = a; tokens = b; last = c; half = d; used = e } in let k' : Known = record { limits = a'; tokens = b'; last = c'; half = d'; used = e' } in k ≡ k')
 same_known p q r s t = λ i. record { limits = p i; tokens = q i; last = r i; half = s i; used = t i }
 
-newest : (site : Site) (opens : List Frame) → newest_id (take 2 (tokens_by opens)) ≡ length opens
+pub newest : (site : Site) (opens : List Frame) → newest_id (take 2 (tokens_by opens)) ≡ length opens
 newest site [] = refl
 newest site (f ∷ opens) = add-one (length opens)
 
-take_twice : (t : Token) (ts : List Token) → take 2 (t ∷ take 2 ts) ≡ take 2 (t ∷ ts)
+pub take_twice : (t : Token) (ts : List Token) → take 2 (t ∷ take 2 ts) ≡ take 2 (t ∷ ts)
 take_twice t [] = refl
 take_twice t (u ∷ []) = refl
 take_twice t (u ∷ v ∷ ts) = refl
@@ -37,7 +37,7 @@ tokens_by_test : (b : Bool) (site : Site) (f : Frame) (opens : List Frame) → t
 tokens_by_test true site f opens = tokens_step site f opens
 tokens_by_test false site f opens = refl
 
-last_by_test : (b : Bool) (f : Frame) (o : Option Frame) → option_map (number_of) (cond b (Some f) o) ≡ cond b (Some (number_of f)) (option_map (number_of) o)
+pub last_by_test : (b : Bool) (f : Frame) (o : Option Frame) → option_map (number_of) (cond b (Some f) o) ≡ cond b (Some (number_of f)) (option_map (number_of) o)
 last_by_test true f o = refl
 last_by_test false f o = refl
 
@@ -45,7 +45,7 @@ half_by_end : (b : Bool) (f : Frame) (parts : List Frame) → half_by (cond b []
 half_by_end true f parts = refl
 half_by_end false f parts = half_step f parts
 
-half_by_test : (b : Bool) (f : Frame) (msgs : List Frame) → half_by (until (λ f. ends_message (flag_of f.bytes)) (cond b (f ∷ msgs) msgs)) ≡ cond b (half_then (half_by (until (λ f. ends_message (flag_of f.bytes)) msgs)) f) (half_by (until (λ f. ends_message (flag_of f.bytes)) msgs))
+pub half_by_test : (b : Bool) (f : Frame) (msgs : List Frame) → half_by (until (λ f. ends_message (flag_of f.bytes)) (cond b (f ∷ msgs) msgs)) ≡ cond b (half_then (half_by (until (λ f. ends_message (flag_of f.bytes)) msgs)) f) (half_by (until (λ f. ends_message (flag_of f.bytes)) msgs))
 half_by_test true f msgs = half_by_end (ends_message (flag_of f.bytes)) f (until (λ f. ends_message (flag_of f.bytes)) msgs)
 half_by_test false f msgs = refl
 
