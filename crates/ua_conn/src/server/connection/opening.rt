@@ -20,7 +20,7 @@ use ua_chunk::{Assembly, OpenChunk, Sequence, open_chunk, write_open};
 use ua_frame::status::BAD_TCP_MESSAGE_TYPE_INVALID;
 use ua_frame::{Frame, Kind};
 use ua_service::{OpenResponse, body_of, read_open, response_header};
-use ua_value::{DateTime, NoMemory, UaBytes};
+use ua_value::{DateTime, NoMemory, UaBytes, let_go};
 
 /// The status of what went well.
 const GOOD: u32 = 0;
@@ -77,11 +77,14 @@ fn grant(
     ensures moment { channel.new.moment ≤ now }
 {
     let request = read_open(alloc, body)?;
-    let Issued { token, lifetime } = channel.issue(&request, now as i64)?;
+    let handle = request.header.request_handle;
+    let issued = channel.issue(&request, now as i64);
+    let_go(request);
+    let Issued { token, lifetime } = issued?;
     Ok(Granted {
         token,
         lifetime,
-        handle: request.header.request_handle,
+        handle,
     })
 }
 
@@ -117,7 +120,9 @@ impl<'a> Connection<'a> {
         admit(&mut self.channel, &self.half, &opening)?;
         let granted = grant(self.alloc, &mut self.channel, opening.body(), now)?;
         let body = opened_body(self.alloc, self.id, granted, now)?;
-        write_open(self.id, opening.request_id(), &body, &mut self.next, out)?;
+        let written = write_open(self.id, opening.request_id(), &body, &mut self.next, out);
+        let_go(body);
+        written?;
         Ok(())
     }
 }
