@@ -120,9 +120,7 @@ impl<'a> Connection<'a> {
         admit(&mut self.channel, &self.half, &opening)?;
         let granted = grant(self.alloc, &mut self.channel, opening.body(), now)?;
         let body = opened_body(self.alloc, self.id, granted, now)?;
-        let written = write_open(self.id, opening.request_id(), &body, &mut self.next, out);
-        let_go(body);
-        written?;
+        write_open(self.id, opening.request_id(), &body, &mut self.next, out)?;
         Ok(())
     }
 }
