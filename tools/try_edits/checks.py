@@ -1,0 +1,236 @@
+"""Checks of changed copies of crates, and what they say of each function."""
+import collections
+import os
+import re
+import shutil
+import subprocess
+import tempfile
+import threading
+
+from try_edits.edits import functions_of, key_of, read, sources, write
+
+PARTS = ("src", "specs", "proofs")
+HARMLESS = "let _harmless = 0u8;"
+
+# What a check said of a function: whether it is proved, whether a search failed, the places of open goals, and the errors in its proof files.
+Verdict = collections.namedtuple("Verdict", "proved goals notes errors")
+
+
+def copy_sources(crate, to):
+    for part in PARTS:
+        if os.path.isdir(f"{crate.folder}/{part}"):
+            shutil.copytree(f"{crate.folder}/{part}", f"{to}/{part}")
+
+
+class Rooms:
+    """The temporary folder: kept/CRATE has the sources of each crate and its proved work; each check has a room, a repository of its own."""
+
+    def __init__(self):
+        self.top = tempfile.mkdtemp(prefix="try-edits-")
+        self.count, self.lock = 0, threading.Lock()
+
+    def keep(self, crate):
+        to = f"{self.top}/kept/{crate.name}"
+        copy_sources(crate, to)
+        for part in ("incremental", "rlib"):
+            if os.path.isdir(f"{crate.folder}/out/{part}"):
+                shutil.copytree(f"{crate.folder}/out/{part}", f"{to}/out/{part}")
+
+    def has_library(self, crate):
+        return os.path.isfile(f"{self.top}/kept/{crate.name}/out/rlib/stamp")
+
+    def has_new_work(self, crate):
+        """Whether the work that is kept of a crate is newer than its sources."""
+        kept = newest(f"{self.top}/kept/{crate.name}/out/incremental")
+        return kept > max(newest(f"{crate.folder}/{part}") for part in PARTS)
+
+    def open(self, crate):
+        """Makes a room for a check of a crate. Work that is kept is linked, since `rt` puts a new file in the place of an old one."""
+        with self.lock:
+            self.count += 1
+            room = f"{self.top}/room{self.count}"
+        for it in crate.below:
+            for part in (*PARTS, "out/rlib"):
+                link(f"{self.top}/kept/{it.name}/{part}", f"{room}/crates/{it.name}/{part}")
+        copy_sources(crate, f"{room}/crates/{crate.name}")
+        for part in ("incremental", "rlib"):
+            link(f"{self.top}/kept/{crate.name}/out/{part}", f"{room}/crates/{crate.name}/out/{part}")
+        write(f"{room}/crates.txt", "".join(f"{it.line}\n" for it in [*crate.below, crate]))
+        return room
+
+    def close(self, crate, room, keeps=False):
+        if keeps:
+            kept = f"{self.top}/kept/{crate.name}/out"
+            shutil.rmtree(kept, ignore_errors=True)
+            shutil.move(f"{room}/crates/{crate.name}/out", kept)
+        shutil.rmtree(room, ignore_errors=True)
+
+
+def newest(folder):
+    times = [os.path.getmtime(f"{at}/{name}") for at, _, names in os.walk(folder) for name in names]
+    return max(times, default=0)
+
+
+def link(folder, to):
+    if os.path.isdir(folder):
+        shutil.copytree(folder, to, copy_function=os.link)
+
+
+def rt(folder, *words):
+    """Runs a command of `rt` in a crate's folder, and returns its exit status and what it wrote."""
+    ran = subprocess.run(["rt", *words], cwd=folder, stdin=subprocess.DEVNULL, stdout=subprocess.PIPE, stderr=subprocess.STDOUT)
+    return ran.returncode, ran.stdout.decode("utf-8", "replace")
+
+
+OF_FUNCTION = re.compile(r"fn (\S+): (proved|not proved|no proof|could not tell)(.*)")
+OPEN_GOAL = re.compile(r"note: (src/\S+\.rt):(\d+):\d+: it is not proved")
+OF_PROOF_FILE = re.compile(r"(?:\./)?proofs/(\S+)/(?:Answers|Invariants|Proof)\.antt:\d+:\d+: error: (.*)")
+# What says of a proof file only that a name which it cites is gone, or what that name stood for.
+NAME_IS_GONE = re.compile(r"has no field|is not in scope|has no `|was not admitted")
+UNREAD = re.compile(r"(?:\./)?src/\S+\.rt:\d+:\d+: error: (?!`[^`]*`: )|(?:\./)?src/\S+\.rt:\d+:\d+: error: .*is not in scope")
+
+
+def verdicts_of(said):
+    """What a check said of each function, by its path below the crate; none where it did not reach the prover."""
+    lines = said.split("\n")
+    if not any(it.startswith(("logic=proved", "logic=not-proved")) for it in lines) or any(map(UNREAD.match, lines)):
+        return None
+    errors = collections.defaultdict(list)
+    for line in lines:
+        found = OF_PROOF_FILE.match(line)
+        if found:
+            errors[tuple(found[1].split("/"))].append(found[2])
+    verdicts, notes = {}, []
+    for line in lines:
+        goal, function = OPEN_GOAL.match(line), OF_FUNCTION.match(line)
+        if goal:
+            notes.append((goal[1], int(goal[2])))
+        elif function:
+            path = tuple(function[1].split("::")[1:])
+            goals = "did not prove" in function[3]
+            verdicts[path] = Verdict(function[2] == "proved", goals, notes, errors.get(path, []))
+            notes = []
+    return verdicts
+
+
+def why_refused(verdict):
+    """Why a function is refused on its own account, not for what it calls."""
+    if verdict.proved:
+        return None
+    if verdict.goals or verdict.notes:
+        return "goal"
+    if any(not NAME_IS_GONE.search(it) for it in verdict.errors):
+        return "proof file"
+    return "name" if verdict.errors else None
+
+
+def module_of(file):
+    parts = file[len("src/") : -len(".rt")].split("/")
+    return tuple(parts[:-1] if parts[-1] in ("lib", "main", "mod") else parts)
+
+
+def in_names(text):
+    """A type or a trait as the prover's names have it, without its parameters: `u32` is `U32`."""
+    found = re.match(r"\s*(?:[\w:]+::)?(\w+)", text)
+    return found[1][:1].upper() + found[1][1:] if found else ""
+
+
+def owner_fits(segments, owner):
+    """Whether what stands between module and function in a path may be this `impl` or `trait`."""
+    if owner is None or len(segments) != 1:
+        return owner is None and not segments
+    text = re.sub(r"\A(impl|trait)(?:<(?:[^<>]|<[^<>]*>)*>)?\s*", "", owner)
+    trait, is_trait, of = text.partition(" for ")
+    if not is_trait:
+        return segments[0] == in_names(text)
+    parts = in_names(trait) + "".join(map(in_names, re.findall(r"<(\w+)>", trait)))
+    return segments[0].startswith(in_names(of)) and segments[0].endswith((in_names(trait), parts))
+
+
+def paths_of(function, verdicts):
+    """The paths that a function may have: one, unless its `impl` is of a type without a name."""
+    module, found = module_of(function.file), []
+    for path in verdicts:
+        rest = path[len(module) :]
+        if path[: len(module)] == module and function.name in rest:
+            # (what follows the name is a closure in it)
+            if owner_fits(rest[: rest.index(function.name)], function.owner):
+                found.append(path)
+    return found
+
+
+class Checked:
+    """A check of a batch: the texts that were changed, and what was said."""
+
+    def __init__(self, texts, status, said):
+        self.texts, self.status, self.said = texts, status, said
+        self.verdicts = verdicts_of(said)
+        self.functions = [it for file, text in texts.items() for it in functions_of(file, text)]
+
+    def refused(self):
+        return {path: why_refused(it) for path, it in self.verdicts.items() if why_refused(it)}
+
+    def refused_in(self, function):
+        """The paths of the function that are refused, those of its closures among them."""
+        paths = paths_of(function, self.verdicts)
+        spans = [(it.file, it.first, it.last) for it in self.functions if key_of(it) == key_of(function)]
+        for path, verdict in self.verdicts.items():
+            if any(file == at[0] and at[1] <= line <= at[2] for file, line in verdict.notes for at in spans):
+                paths.append(path)
+        return {path: why for path, why in self.refused().items() if path in paths}
+
+
+# (a capital begins what makes a value, as `Some(`)
+CALLS = re.compile(r"\b[a-z_]\w*\(|[?!\[]|\bfor\b")
+
+
+def control_of(crate, batch):
+    """A function that calls nothing, has no proof file and is not changed by the batch, the shortest first."""
+    taken = {key_of(it) for place in batch for it in place.functions}
+    found = []
+    for path in sources(crate.folder):
+        file = os.path.relpath(path, crate.folder)
+        lines = read(path).split("\n")
+        for it in functions_of(file, "\n".join(lines)):
+            body = "\n".join(lines[it.body : it.last - 1])
+            is_plain = it.first < it.last and not CALLS.search(body) and not re.search(r"\btests?\b", file)
+            proofs = f"{crate.folder}/proofs/{'/'.join(module_of(file))}"
+            if is_plain and key_of(it) not in taken and not has_proofs(proofs, it.name):
+                found.append((len(body), it))
+    return min(found, key=lambda it: (it[0], it[1].file, it[1].first))[1] if found else None
+
+
+def has_proofs(folder, name):
+    return any(os.path.basename(at) == name for at, _, _ in os.walk(folder))
+
+
+def texts_of(crate, batch, control):
+    """The changed files of a batch by path, its control among them. A batch of more than one place has one pair in each."""
+    if len(batch) == 1:
+        texts = {pair.file: read(f"{crate.folder}/{pair.file}") for pair in batch[0].pairs}
+        for pair in batch[0].pairs:
+            texts[pair.file] = texts[pair.file].replace(pair.old, pair.new)
+        changes = []
+    else:
+        texts = {}
+        changes = [change_of(crate, pair) for place in batch for pair in place.pairs]
+    if control:
+        changes.append(harmless_change(crate, control, texts))
+    # (from the end on, so that what stands before keeps its place)
+    for file, begins, ends, text in sorted(changes, reverse=True):
+        source = texts.get(file) or read(f"{crate.folder}/{file}")
+        texts[file] = source[:begins] + text + source[ends:]
+    return texts
+
+
+def change_of(crate, pair):
+    at = read(f"{crate.folder}/{pair.file}").index(pair.old)
+    return pair.file, at, at + len(pair.old), pair.new
+
+
+def harmless_change(crate, control, texts):
+    """Puts a statement behind the brace of a function's body."""
+    text = texts.get(control.file) or read(f"{crate.folder}/{control.file}")
+    found = next(it for it in functions_of(control.file, text) if key_of(it) == key_of(control))
+    at = len("\n".join(text.split("\n")[: found.body]))
+    return control.file, at, at, f"\n{HARMLESS}"

@@ -1,0 +1,180 @@
+"""The crates of the repository, their functions, and the places that the edits of wrong bodies change."""
+import collections
+import os
+import re
+import time
+
+ROOT = os.path.dirname(os.path.dirname(os.path.dirname(os.path.realpath(__file__))))
+FOLDERS = ("must-fail", "wrong-bodies")
+
+# One change of an edit.
+Pair = collections.namedtuple("Pair", "file old new")
+# A function, what it stands in (`impl Wire for u32`), and the numbers of its lines: the first, that with the brace of its body, the last.
+Function = collections.namedtuple("Function", "file name owner first body last")
+# What is judged as one: some pairs of an edit, the line of the first, and the functions that they change; none where they change what is no body.
+Place = collections.namedtuple("Place", "edit pairs line functions")
+
+
+def read(path):
+    with open(path, encoding="utf-8") as file:
+        return file.read()
+
+
+def write(path, text):
+    with open(path, "w", encoding="utf-8") as file:
+        file.write(text)
+
+
+class Crate:
+    def __init__(self, line):
+        head, _, deps = line.partition(":")
+        self.line, self.name, self.deps = line, head.split()[0], deps.split()
+        self.folder = f"{ROOT}/crates/{self.name}"
+        self.is_program = os.path.isfile(f"{self.folder}/src/main.rt")
+        self.above, self.below = [], []
+        self.places, self.lines = [], []
+        self.passed = self.failed = self.open = 0
+        self.started = time.time()
+
+    def length(self):
+        return sum(read(path).count("\n") for path in sources(self.folder))
+
+
+def sources(folder):
+    for at, folders, names in os.walk(f"{folder}/src"):
+        folders.sort()
+        for name in sorted(names):
+            if name.endswith(".rt"):
+                yield f"{at}/{name}"
+
+
+def crates_of_the_repository():
+    """The crates by name, lowest first, each with the crates below it and those right above it."""
+    lines = [line.split("#")[0].strip() for line in read(f"{ROOT}/crates.txt").split("\n")]
+    crates = {crate.name: crate for crate in map(Crate, filter(None, lines))}
+    for crate in crates.values():
+        crate.deps = [crates[name] for name in crate.deps if name in crates]
+        for dep in crate.deps:
+            dep.above.append(crate)
+    for crate in crates.values():
+        crate.below = below(crate)
+    return {crate.name: crate for crate in sorted(crates.values(), key=lambda it: len(it.below))}
+
+
+def below(crate):
+    found = []
+    for dep in crate.deps:
+        found += [it for it in [*below(dep), dep] if it not in found]
+    return found
+
+
+FN = re.compile(r"( *)(?:pub(?:\([^)]*\))? )?(?:const |unsafe |final )*fn (\w+)")
+OWNER = re.compile(r"( *)(?:pub(?:\([^)]*\))? )?(?:unsafe )?((?:impl|trait)\b.*)")
+
+
+def functions_of(file, text):
+    """The functions of a file with a body, outside of its tests."""
+    found, owner, lines = [], None, text.split("\n")
+    for at, line in enumerate(lines):
+        opened = OWNER.match(line)
+        if opened and not line.rstrip().endswith("}"):
+            owner = (opened[1], opened[2].rstrip("{ "))
+        elif owner and line == owner[0] + "}":
+            owner = None
+        header = FN.match(line)
+        if header:
+            body, last = body_of(lines, at, header[1])
+            if body is not None:
+                found.append(Function(file, header[2], owner and owner[1], at + 1, body + 1, last + 1))
+    return found
+
+
+def body_of(lines, at, indent):
+    """The line that opens the body of the function that begins at a line, and the one that closes it."""
+    if lines[at].endswith("}"):
+        return at, at
+    for opens in range(at, len(lines)):
+        line = lines[opens]
+        if line.endswith("{") and (opens == at or line == indent + "{" or line.startswith(indent + ")")):
+            return opens, lines.index(indent + "}", opens)
+        if opens > at and line and not line.startswith((indent + " ", indent + ")", indent + "where")):
+            break
+    return None, None
+
+
+def pairs_of(text):
+    file = old = None
+    for line in text.split("\n"):
+        if line.startswith("file: "):
+            file = line[len("file: ") :].strip()
+        elif line.startswith("old: "):
+            old = line[len("old: ") :]
+        elif line.startswith("new:"):
+            yield Pair(file, old, re.sub(r"\A ", "", line[len("new:") :]))
+            old = None
+
+
+def function_at(functions, line, pair):
+    """The innermost function whose body has a line, or begins with what the pair puts behind its brace."""
+    goes_on = pair.old.endswith("{") and pair.new.startswith(pair.old)
+    found = [it for it in functions if it.body < line < it.last or line == it.first == it.last or line == it.body and goes_on]
+    return found[-1] if found else None
+
+
+def places_of(crate, edit):
+    """The places of an edit, or why it cannot be applied."""
+    pairs = list(pairs_of(read(edit)))
+    texts, places, is_one = {}, [], False
+    if not pairs:
+        return [], "it has no pair of old and new"
+    for pair in pairs:
+        if not pair.file or not pair.old or not os.path.isfile(f"{crate.folder}/{pair.file}"):
+            return [], f"there is no file {pair.file}, or no old text"
+        if not pair.file.startswith("src/"):
+            return [], f"{pair.file} is no file of src/"
+        source = read(f"{crate.folder}/{pair.file}")
+        text = texts.get(pair.file, source)
+        if text.count(pair.old) != 1:
+            return [], f"an old text is in {pair.file} {text.count(pair.old)} times, and not once"
+        texts[pair.file] = text.replace(pair.old, pair.new)
+        at = source.find(pair.old)
+        line = source[: max(at, 0)].count("\n") + 1
+        function = function_at(functions_of(pair.file, source), line, pair)
+        is_one = is_one or source.count(pair.old) != 1 or function is None
+        places.append(Place(edit, [pair], line, [function]))
+    if not is_one:
+        return places, None
+    functions = [it.functions[0] for it in places]
+    functions = [] if None in functions else list(dict.fromkeys(functions))
+    return [Place(edit, pairs, places[0].line, functions)], None
+
+
+def edits_of(crate):
+    for folder in FOLDERS:
+        path = f"{crate.folder}/{folder}"
+        for name in sorted(os.listdir(path)) if os.path.isdir(path) else []:
+            if name.endswith(".edit"):
+                yield f"{path}/{name}"
+
+
+def title(edit):
+    return os.path.basename(edit)[: -len(".edit")]
+
+
+def key_of(function):
+    return function.file, function.owner, function.name
+
+
+def batches_of(places):
+    """Groups the places, so that no function is changed twice in a group. What changes no body, or is several pairs, is a group of its own."""
+    batches = []
+    for place in places:
+        keys = {key_of(it) for it in place.functions}
+        for batch, taken in batches:
+            if keys and taken and not keys & taken and len(place.pairs) == len(batch[0].pairs) == 1:
+                batch.append(place)
+                taken |= keys
+                break
+        else:
+            batches.append(([place], keys))
+    return [batch for batch, _ in batches]
