@@ -11,7 +11,7 @@ mod sequence;
 mod tests;
 mod writing;
 
-pub use assembly::{AddFault, Added, Assembly};
+pub use assembly::{Added, Assembly};
 pub use chunk::{Chunk, message_chunk};
 pub use opening::{OpenChunk, POLICY_NONE, open_chunk};
 pub use sequence::{Sequence, follows};
