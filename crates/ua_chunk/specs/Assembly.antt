@@ -7,8 +7,6 @@ use Rattle.ua_chunk.specs.Half.{Half, with_part, part_rows}
 use Rattle.ua_chunk.specs.Gathered.{Gathered}
 use Rattle.ua_chunk.specs.declared.assembly.Added.{Added}
 use Rattle.ua_chunk.specs.declared.assembly.Added.TheVariants.{More, Whole, Aborted}
-use Rattle.ua_chunk.specs.declared.assembly.AddFault.{AddFault}
-use Rattle.ua_chunk.specs.declared.assembly.AddFault.TheVariants.{Refused, NoMemory}
 
 abbrev pub gathered_none : ℕ → ℕ → Gathered
 gathered_none max_message max_chunks = record { max_message = max_message; max_chunks = max_chunks; half = None; whole = false }
@@ -38,10 +36,6 @@ added_by c = if c.flag == 65 then aborted_by (abort_of c.chunk.body) else Some (
 abbrev pub is_whole : Added → Bool
 is_whole Whole = true
 is_whole added = false
-
-abbrev pub RowSays : Option ℕ → AddFault → Type 0
-RowSays row (Refused status) = row ≡ Some status
-RowSays row NoMemory = row ≡ None
 
 -- what is held after all of the parts
 abbrev pub gathered_all : Gathered → List Part → Gathered

@@ -1,14 +1,13 @@
 //! Messages put together from their parts.
 
-ghost use Rattle.std.specs.Prelude.{◌≡◌, length, true, false, is_ok, Some, None, IfOk, OnOk, IfErr, Err, if◌then◌else◌};
+ghost use Rattle.std.specs.Prelude.{◌≡◌, ◌≤◌, length, false, is_ok, Some, None, IfOk, OnOk, IfErr, if◌then◌else◌};
 ghost use Rattle.ua_frame.specs.declared.kind.Kind.TheVariants.{Message};
 ghost use Rattle.ua_chunk.specs.Half.{id_of, body_of};
-ghost use Rattle.ua_chunk.specs.Assembly.{gathered_none, gathered_after, half_of, part_fault, added_by, is_whole, RowSays};
-ghost use Rattle.ua_chunk.specs.declared.assembly.AddFault.TheVariants.{NoMemory as OutOfMemory};
+ghost use Rattle.ua_chunk.specs.Assembly.{gathered_none, gathered_after, half_of, part_fault, added_by, is_whole};
 
 use crate::abort::abort_status;
 use crate::chunk::Chunk;
-use std::alloc::{AllocError, Global};
+use std::alloc::Global;
 use std::marker::Model;
 use ua_frame::status::{
     BAD_DECODING_ERROR, BAD_TCP_MESSAGE_TOO_LARGE, BAD_TCP_MESSAGE_TYPE_INVALID,
@@ -29,24 +28,8 @@ pub enum Added {
     },
 }
 
-/// Why a part was not added.
-#[derive(Clone, Copy, Debug, PartialEq, Eq)]
-pub enum AddFault {
-    /// The status that refuses it.
-    Refused(u32),
-    /// A growth was refused.
-    NoMemory,
-}
-
-impl From<AllocError> for AddFault {
-    ghost from_gives = { λ _ e. e ≡ OutOfMemory };
-
-    fn from(_e: AllocError) -> AddFault {
-        AddFault::NoMemory
-    }
-}
-
-/// The parts of one message so far, within the limits of the end that receives it. OPC 10000-6, 6.7.2.
+/// The parts of one message so far, within the limits of the end that receives it, in room that is reserved once.
+/// OPC 10000-6, 6.7.2.
 #[derive(Drop)]
 pub struct Assembly {
     max_message: u32,
@@ -58,36 +41,37 @@ pub struct Assembly {
 }
 
 impl Model for Assembly {
-    ghost use Rattle.std.specs.Prelude.{◌≡◌};
+    ghost use Rattle.std.specs.Prelude.{vec_capacity};
     ghost use Rattle.ua_chunk.specs.Gathered.{Gathered, half_by, IsGathered};
 
     ghost Value = { Gathered };
 
     ghost view = { λ a. record { max_message = a.max_message; max_chunks = a.max_chunks; half = half_by a.id a.parts a.body.items; whole = a.whole } };
 
-    ghost invariant = { λ a. IsGathered a.max_message a.max_chunks a.id a.parts a.body.items };
+    ghost invariant = { λ a. IsGathered a.max_message a.max_chunks a.id a.parts a.body.items (vec_capacity a.body) };
 }
 
 impl Assembly {
     /// An assembly without parts, for messages of at most `max_message` bytes in at most `max_chunks` parts. These
     /// are the limits of the end that receives; a 0 is no special one. OPC 10000-6, 7.1.2.3 and 7.1.2.4.
     ///
-    /// It is always `Ok`: no memory is taken yet.
+    /// Room for the longest message is reserved here and never again, and is not filled. `NoMemory` comes only where
+    /// the reservation was refused.
     pub fn with_capacity(
         alloc: Global,
         max_message: u32,
         max_chunks: u32,
     ) -> Result<Assembly, NoMemory>
         ensures made { IfOk result (λ a. a ≡ gathered_none max_message max_chunks) }
-        ensures always { is_ok result ≡ true }
     {
+        let body = Vec::with_capacity(alloc, max_message as usize)?;
         Ok(Assembly {
             max_message,
             max_chunks,
             id: None,
             parts: 0,
             whole: false,
-            body: Vec::new(alloc),
+            body,
         })
     }
 
@@ -97,40 +81,41 @@ impl Assembly {
     ///
     /// After `Whole` the message is there in `body`, until `clear`, which goes before the next `add`.
     ///
-    /// `Refused` has the status of the first that holds: `BAD_TCP_MESSAGE_TYPE_INVALID`, where the chunk has another
+    /// `Err` is the status of the first that holds: `BAD_TCP_MESSAGE_TYPE_INVALID`, where the chunk has another
     /// request id than the parts before it; `BAD_TCP_MESSAGE_TOO_LARGE`, where a `C` or `F` makes more parts or more
-    /// bytes than the limits; `BAD_DECODING_ERROR`, where an `A` has not the body of an abort. `NoMemory` comes only
-    /// where the message had to grow, so never at an abort. After a fault all is as before.
-    pub fn add(&mut self, chunk: &Chunk) -> Result<Added, AddFault>
+    /// bytes than the limits; `BAD_DECODING_ERROR`, where an `A` has not the body of an abort. All is as before then.
+    /// It takes no memory.
+    pub fn add(&mut self, chunk: &Chunk) -> Result<Added, u32>
         requires message { chunk.now.kind ≡ Message }
         requires cleared { self.old.whole ≡ false }
         ensures passed { OnOk result (part_fault self.old chunk.now ≡ None) }
-        ensures refused { IfErr result (λ fault. RowSays (part_fault self.old chunk.now) fault) }
+        ensures refused { IfErr result (λ status. part_fault self.old chunk.now ≡ Some status) }
         ensures added { IfOk result (λ added. added_by chunk.now ≡ Some added) }
         ensures whole { IfOk result (λ added. self.new.whole ≡ is_whole added) }
         ensures holds { self.new ≡ (if is_ok result then gathered_after self.old chunk.now.flag chunk.now.chunk.request_id chunk.now.chunk.body else self.old) }
-        ensures abort_takes_none { chunk.now.flag ≡ 65 → result ≡ Err OutOfMemory → ⊥ }
-        ensures empty_takes_none { length chunk.now.chunk.body ≡ 0 → result ≡ Err OutOfMemory → ⊥ }
+        ensures bound { length (body_of self.new.half) ≤ self.new.max_message }
     {
         let id = chunk.request_id();
         let bytes = chunk.body();
         if let Some(first) = self.id {
             if first != id {
-                return Err(AddFault::Refused(BAD_TCP_MESSAGE_TYPE_INVALID));
+                return Err(BAD_TCP_MESSAGE_TYPE_INVALID);
             }
         }
         if chunk.flag() == b'A' {
             let Some(status) = abort_status(bytes) else {
-                return Err(AddFault::Refused(BAD_DECODING_ERROR));
+                return Err(BAD_DECODING_ERROR);
             };
             self.clear();
             return Ok(Added::Aborted { status });
         }
         let room = self.max_message as usize - self.body.len();
         if self.parts >= self.max_chunks || bytes.len() > room {
-            return Err(AddFault::Refused(BAD_TCP_MESSAGE_TOO_LARGE));
+            return Err(BAD_TCP_MESSAGE_TOO_LARGE);
         }
-        self.body.extend_from_slice(bytes)?;
+        let Ok(()) = self.body.extend_from_slice(bytes) else {
+            unreachable!()
+        };
         self.id = Some(id);
         self.parts += 1;
         self.whole = chunk.flag() == b'F';

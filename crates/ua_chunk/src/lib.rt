@@ -12,7 +12,7 @@ mod sequence;
 mod tests;
 mod writing;
 
-pub use assembly::{AddFault, Added, Assembly};
+pub use assembly::{Added, Assembly};
 pub use chunk::{Chunk, message_chunk};
 pub use content::{Content, ContentFault, content_of};
 pub use opening::{OpenChunk, POLICY_NONE, open_chunk};

@@ -3,7 +3,7 @@
 ghost use Rattle.std.specs.Prelude.{◌≡◌, ◌≤◌, ◌<◌, length, false, IfOk};
 
 use super::{abort_too_large, whole};
-use crate::{AddFault, Added, Assembly, follows, message_chunk};
+use crate::{Added, Assembly, follows, message_chunk};
 use std::alloc::{AllocError, Global};
 use std::process::Abort;
 use std::test::Fail;
@@ -23,14 +23,7 @@ pub(super) fn part(alloc: Global, flag: u8, id: u8, bytes: &[u8]) -> Result<Vec<
 }
 
 /// The flag, request id and bytes of a part, then what comes of it, and what `half` and `body` give behind it.
-type Row<'a> = (
-    u8,
-    u8,
-    &'a [u8],
-    Result<Added, AddFault>,
-    Option<u32>,
-    &'a [u8],
-);
+type Row<'a> = (u8, u8, &'a [u8], Result<Added, u32>, Option<u32>, &'a [u8]);
 
 /// Adds the part, and makes room behind a whole message.
 fn step(rt: &impl Abort, alloc: Global, assembly: &mut Assembly, row: &Row) -> Result<(), Fail>
@@ -64,13 +57,13 @@ fn run(rt: &impl Abort, alloc: Global, mut assembly: Assembly, rows: &[Row]) -> 
 
 const ABORT: &[u8] = b"\0\0\xB9\x80\xFF\xFF\xFF\xFF";
 
-const OTHER_ID: Result<Added, AddFault> = Err(AddFault::Refused(BAD_TCP_MESSAGE_TYPE_INVALID));
+const OTHER_ID: Result<Added, u32> = Err(BAD_TCP_MESSAGE_TYPE_INVALID);
 
-const TOO_LARGE: Result<Added, AddFault> = Err(AddFault::Refused(BAD_TCP_MESSAGE_TOO_LARGE));
+const TOO_LARGE: Result<Added, u32> = Err(BAD_TCP_MESSAGE_TOO_LARGE);
 
-const MALFORMED: Result<Added, AddFault> = Err(AddFault::Refused(BAD_DECODING_ERROR));
+const MALFORMED: Result<Added, u32> = Err(BAD_DECODING_ERROR);
 
-const ABORTED: Result<Added, AddFault> = Ok(Added::Aborted {
+const ABORTED: Result<Added, u32> = Ok(Added::Aborted {
     status: 0x80B9_0000,
 });
 

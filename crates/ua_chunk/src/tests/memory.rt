@@ -3,8 +3,8 @@
 use super::assembling::part;
 use super::{abort_too_large, behind, close_request, find_request, open_response, whole};
 use crate::{
-    AddFault, Added, Assembly, Head, Sequence, message_chunk, write_abort, write_chunks,
-    write_close, write_open,
+    Added, Assembly, Head, Sequence, message_chunk, write_abort, write_chunks, write_close,
+    write_open,
 };
 use std::alloc::AllocError;
 use std::process::Abort;
@@ -102,8 +102,9 @@ fn write_abort_or_no_memory(rt: HostRuntime) {
     is_whole_or_nothing(&rt, wrote, &out, abort_too_large(), sequence, 2);
 }
 
+/// The room is reserved before the first part.
 #[test]
-fn add_or_no_memory(rt: HostRuntime) {
+fn assembly_or_no_memory(rt: HostRuntime) {
     let Ok(first) = part(rt.alloc(), b'C', 2, b"abcdefghij") else {
         return;
     };
@@ -116,28 +117,11 @@ fn add_or_no_memory(rt: HostRuntime) {
     let frame = whole(&rt, &first);
     let chunk = message_chunk(&frame).expect(&rt, "the layout of a chunk");
     assert!(rt; chunk.kind() == Kind::Message);
-    match assembly.add(&chunk) {
-        Ok(added) => assert_eq!(rt; added, Added::More),
-        Err(fault) => {
-            assert_eq!(rt; fault, AddFault::NoMemory);
-            assert_eq!(rt; assembly.half(), None);
-            assert!(rt; assembly.body().is_empty());
-            return;
-        }
-    }
+    assert_eq!(rt; assembly.add(&chunk), Ok(Added::More));
     let frame = whole(&rt, &last);
     let chunk = message_chunk(&frame).expect(&rt, "the layout of a chunk");
     assert!(rt; chunk.kind() == Kind::Message);
-    match assembly.add(&chunk) {
-        Ok(added) => {
-            assert_eq!(rt; added, Added::Whole);
-            assert_eq!(rt; assembly.half(), None);
-            assert_eq!(rt; assembly.body().len(), 100);
-        }
-        Err(fault) => {
-            assert_eq!(rt; fault, AddFault::NoMemory);
-            assert_eq!(rt; assembly.half(), Some(2));
-            assert_eq!(rt; assembly.body(), b"abcdefghij".as_slice());
-        }
-    }
+    assert_eq!(rt; assembly.add(&chunk), Ok(Added::Whole));
+    assert_eq!(rt; assembly.half(), None);
+    assert_eq!(rt; assembly.body().len(), 100);
 }

@@ -1,11 +1,10 @@
 //! Why a frame was not taken.
 
 ghost use Rattle.std.specs.Prelude.{◌≡◌};
-ghost use Rattle.ua_conn.specs.server.Unread.{of_unread, of_added};
+ghost use Rattle.ua_conn.specs.server.Unread.{of_unread};
 ghost use Rattle.ua_conn.specs.declared.server.fault.Fault.TheVariants.{Refused as RefusedWith, NoMemory as OutOfMemory};
 
 use std::alloc::{AllocError, AllocFailed};
-use ua_chunk::AddFault;
 use ua_frame::status::BAD_DECODING_ERROR;
 use ua_value::ReadFault;
 
@@ -50,17 +49,6 @@ impl From<ReadFault> for Fault {
         match fault {
             ReadFault::Refused => Fault::Refused(BAD_DECODING_ERROR),
             ReadFault::NoMemory => Fault::NoMemory,
-        }
-    }
-}
-
-impl From<AddFault> for Fault {
-    ghost from_gives = { λ fault e. e ≡ of_added fault };
-
-    fn from(fault: AddFault) -> Fault {
-        match fault {
-            AddFault::Refused(status) => Fault::Refused(status),
-            AddFault::NoMemory => Fault::NoMemory,
         }
     }
 }
