@@ -13,3 +13,4 @@ pub mod IdLemmas
 pub mod MatchedLemmas
 pub mod CountLemmas
 pub mod AcceptedLemmas
+pub mod FirstFaultLemmas

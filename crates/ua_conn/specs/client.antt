@@ -10,3 +10,4 @@ pub mod Asking
 pub mod Held
 pub mod Feeding
 pub mod Machine
+pub mod FirstFault

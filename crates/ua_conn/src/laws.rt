@@ -5,8 +5,9 @@ ghost use Rattle.ua_frame.specs.Streams.{TimedByte, Framed, cuts_of, rest_of};
 ghost use Rattle.ua_conn.specs.server.FirstFault.{StopsFirst};
 ghost use Rattle.ua_conn.specs.server.Held.{ByRecord};
 ghost use Rattle.ua_conn.specs.client.Asking.{in_flight};
+ghost use Rattle.ua_conn.specs.client.FirstFault.{ClientStopsFirst, ClientStaysStopped};
 ghost use Rattle.ua_conn.specs.client.Held.{ClientByRecord, RefusedByRecord};
-ghost use Rattle.ua_conn.specs.BothEnds.{Faithful};
+ghost use Rattle.ua_conn.specs.BothEnds.{Faithful, HandedAndAccepted, NothingRefused, NoneUnanswered};
 ghost use Rattle.ua_conn.specs.server.Legal.{HasRoom, BeginsLegal};
 ghost use Rattle.ua_conn.specs.server.Site.{Site};
 ghost use Rattle.ua_conn.specs.server.Whole.{StaysStopped, SameForAnyCut};
@@ -45,6 +46,17 @@ pub fn legal()
     ensures { (site : Site) → HasRoom site → BeginsLegal site }
 {}
 
+/// A client's reading stops at the least place where a row of its table of refusals holds.
+pub fn client_first_fault()
+    ensures { ClientStopsFirst }
+{}
+
+/// Once a client has met a fault, what comes later changes neither the fault, the answers nor what it sends, and each
+/// command is refused.
+pub fn client_stays_stopped()
+    ensures { ClientStaysStopped in_flight }
+{}
+
 /// What one more piece, or one more command that is accepted, brings to a client that has not failed depends on the
 /// record of what it holds and the event alone: the bytes that it sends, the answers, the fault, and the record then.
 pub fn client_by_record()
@@ -61,4 +73,22 @@ pub fn refused_by_record()
 /// delivered to the client a beginning of what the server answered.
 pub fn faithful()
     ensures { Faithful in_flight }
+{}
+
+/// After every schedule, the server was handed a beginning of what was asked, in order; and each answer that the client
+/// accepted is the discovery answer to its own request, or the abort in its place where that passes the client's limits.
+pub fn handed()
+    ensures { HandedAndAccepted in_flight }
+{}
+
+/// While each token lives that a delivered MSG or CLO names, after every schedule the server has met no fault, and
+/// neither has the client.
+pub fn unrefused()
+    ensures { NothingRefused in_flight }
+{}
+
+/// While each token lives that a delivered MSG or CLO names, once all that was sent is delivered each way, all that was
+/// asked is handed on and answered.
+pub fn answered()
+    ensures { NoneUnanswered in_flight }
 {}

@@ -28,10 +28,11 @@ use Rattle.ua_conn.proofs.BothEnds.SpokenLemmas.{Acknowledges, Greets, spell, is
 use Rattle.ua_conn.proofs.BothEnds.SpokenAnswerLemmas.{agreed_value}
 use Rattle.ua_conn.proofs.BothEnds.SpokenRequestLemmas.{Goes, asks_all, says_all, at}
 use Rattle.ua_conn.proofs.BothEnds.SpokenTurnLemmas.{nothing_known, hello_taken}
-use Rattle.ua_conn.proofs.BothEnds.SpokenSessionLemmas.{IsClient, hello_value}
+use Rattle.ua_conn.proofs.BothEnds.SpokenSessionLemmas.{hello_value}
 use Rattle.ua_conn.proofs.BothEnds.SpokenTableLemmas.{hears}
 use Rattle.ua_conn.proofs.BothEnds.ClientWalkLemmas.{Got}
 use Rattle.ua_conn.proofs.BothEnds.SpokenStreamLemmas.{replies_go}
+use Rattle.ua_conn.proofs.BothEnds.OpeningKeepLemmas.{client_of}
 use Rattle.ua_conn.proofs.BothEnds.OpeningWalkLemmas.{acknowledge_got}
 
 -- ---- frames that carry no token
@@ -46,7 +47,7 @@ rows_untokened site k f b c flag (Some kinds.Open) h = refl
 rows_untokened site k f b c flag (Some kinds.Message) h = absurd (cc h)
 rows_untokened site k f b c flag (Some kinds.Close) h = absurd (cc h)
 
-untokened : (site : Site) (k : Known) (f : Frame) (b c : Bool) → has_token (kind_of f.bytes) ≡ false → fault_by site k f b ≡ fault_by site k f c
+pub untokened : (site : Site) (k : Known) (f : Frame) (b c : Bool) → has_token (kind_of f.bytes) ≡ false → fault_by site k f b ≡ fault_by site k f c
 unfolding fault_by
 untokened site k f b c h = ap (λ rows. or_else (header_fault (greatest_frame k.limits) f.bytes) (first_row rows)) (rows_untokened site k f b c (flag_of f.bytes) (kind_of f.bytes) h)
 
@@ -76,25 +77,6 @@ served_none site past (f ∷ fs) e h =
     served_none site (f ∷ past) fs (ap (λ (k : Known). asks_all site k fs) (known_step site f past) ∙ rest)
     (λ i. h i ++ map (λ r. record { request = r; moment = f.moment }) (here i))
 
--- ---- the client of a setup
-
-pub is_client : (s : Setup) → IsSetup s → IsClient s.asker.config.buffer s.asker.config.max_message s.asker.config.max_chunks s.asker.config.lifetime s.asker.first_sequence s.asker.url
-is_client s h =
-    let a = h.asker in
-    let c = a.config in
-    record {
-      least = c.buffer_least;
-      most = c.buffer_most;
-      message_least = c.message_least;
-      message_most = omega (arith, c.message_most);
-      chunks_least = c.chunks_least;
-      chunks_most = omega (arith, c.chunks_most);
-      lifetime_fits = c.lifetime;
-      first_some = a.first_least;
-      url_short = a.url;
-      url_text = a.text;
-    }
-
 -- ---- behind the Hello
 
 -- The server takes the Hello, and the client its Acknowledge, whatever it is told; nothing is served or answered.
@@ -116,7 +98,7 @@ greeted s h p r e d =
     let ack = negotiated limits hello in
     let b = h.site.settings.bounds.limits in
     let c = h.asker.config in
-    let value = hello_value s.asker.config.buffer s.asker.config.max_message s.asker.config.max_chunks s.asker.config.lifetime s.asker.first_sequence s.asker.url (is_client s h) in
+    let value = hello_value s.asker.config.buffer s.asker.config.max_message s.asker.config.max_chunks s.asker.config.lifetime s.asker.first_sequence s.asker.url (client_of s.asker h.asker) in
     let took = hello_taken s.site hello p e value h.asker.url c.buffer_least c.buffer_least in
     let kind = (is_read p (Greets hello) e h.asker.url value).kind in
     let start = nothing_known s.site in

@@ -101,10 +101,12 @@ pub data IsStarted (cmds : Commands) (past : Past) : Type 0 where
   untold : cmds ≡ [] → IsStarted cmds past
   acknowledged : (f : Frame) → acknowledge_frame_in past ≡ Some f → IsStarted cmds past
 
+-- behind the Acknowledge, frames that come later change nothing of what is sent
+pub sent_same : (a : Asker) (n : ℕ) (cmds : Commands) (fs : List Frame) (past : Past) (f : Frame) → AllSeen n cmds → AllBehind n past fs → acknowledge_frame_in past ≡ Some f → sent_by a cmds past ≡ sent_by a cmds (newest_first fs past)
+sent_same a n cmds fs past f h b e = λ i. greets a past ++ opens_by a ((e ∙ sym (acknowledge_same fs past f e)) i) ++ sym (commands_same a n cmds fs past h b) i
+
 sent_more : (a : Asker) (n : ℕ) (cmds : Commands) (fs : List Frame) (past : Past) → AllSeen n cmds → AllBehind n past fs → IsStarted cmds past → IsPrefix (sent_by a cmds past) (sent_by a cmds (newest_first fs past))
-sent_more a n cmds fs past h b (acknowledged f e) =
-    let same : sent_by a cmds past ≡ sent_by a cmds (newest_first fs past) = λ i. greets a past ++ opens_by a ((e ∙ sym (acknowledge_same fs past f e)) i) ++ sym (commands_same a n cmds fs past h b) i in
-    subst (λ (xs : List Sent). IsPrefix (sent_by a cmds past) xs) same (prefix_self (sent_by a cmds past))
+sent_more a n cmds fs past h b (acknowledged f e) = subst (λ (xs : List Sent). IsPrefix (sent_by a cmds past) xs) (sent_same a n cmds fs past f h b e) (prefix_self (sent_by a cmds past))
 sent_more a n cmds fs past h b (untold e) = subst (λ (cs : Commands). IsPrefix (sent_by a cs past) (sent_by a cs (newest_first fs past))) (sym e) (by (acknowledge_frame_in past) refl)
   where
     by : (o : Option Frame) → acknowledge_frame_in past ≡ o → IsPrefix (sent_by a [] past) (sent_by a [] (newest_first fs past))
@@ -115,21 +117,26 @@ sent_more a n cmds fs past h b (untold e) = subst (λ (cs : Commands). IsPrefix 
 
 -- ---- more comes
 
-come_grows : (a : Asker) (cmds : Commands) (v t : List TimedByte) → AllSeen (length v) cmds → IsStarted cmds (client_reading_of a cmds v).past → IsPrefix (client_bytes a cmds v) (client_bytes a cmds (v ++ t))
-come_grows a cmds v t seen started = by (reads_more a cmds v t)
+-- the frames that come to stand later end behind all that came
+pub stands_behind : (a : Asker) (cmds : Commands) (v t : List TimedByte) → (r : ReadsOn [] (frames_of v) (frames_of (rest_of v ++ t)) (client_reading_of a cmds v) (client_reading_of a cmds (v ++ t)))
+    → AllBehind (length v) (client_reading_of a cmds v).past r.more
+stands_behind a cmds v t r = behind r.first
   where
     P : Past
     P = (client_reading_of a cmds v).past
 
-    by : ReadsOn [] (frames_of v) (frames_of (rest_of v ++ t)) (client_reading_of a cmds v) (client_reading_of a cmds (v ++ t)) → IsPrefix (client_bytes a cmds v) (client_bytes a cmds (v ++ t))
-    by r = subst (λ (past : Past). IsPrefix (client_bytes a cmds v) (sent_all a.first_sequence 0 (sent_by a cmds past))) (sym r.behind)
-        (bytes_prefix a (sent_by a cmds P) (sent_by a cmds (newest_first r.more P)) (sent_more a (length v) cmds r.more P seen (behind r.first) started))
-      where
-        behind : (r.more ≡ []) ⊎ ((P ≡ newest_first (frames_of v) []) × IsPrefix r.more (frames_of (rest_of v ++ t))) → AllBehind (length v) P r.more
-        behind (inl e) = subst (λ (fs : List Frame). AllBehind (length v) P fs) (sym e) tt
-        behind (inr h) =
-            let all = subst (λ (fs : List Frame). AllBehind (length v) (newest_first (frames_of v) []) fs) (sym h.1.1) (later_frames v t) in
-            subst (λ (past : Past). AllBehind (length v) past r.more) (sym h.0) (behind_less (length v) (newest_first (frames_of v) []) r.more h.1.0 all)
+    behind : (r.more ≡ []) ⊎ ((P ≡ newest_first (frames_of v) []) × IsPrefix r.more (frames_of (rest_of v ++ t))) → AllBehind (length v) P r.more
+    behind (inl e) = subst (λ (fs : List Frame). AllBehind (length v) P fs) (sym e) tt
+    behind (inr h) =
+        let all = subst (λ (fs : List Frame). AllBehind (length v) (newest_first (frames_of v) []) fs) (sym h.1.1) (later_frames v t) in
+        subst (λ (past : Past). AllBehind (length v) past r.more) (sym h.0) (behind_less (length v) (newest_first (frames_of v) []) r.more h.1.0 all)
+
+come_grows : (a : Asker) (cmds : Commands) (v t : List TimedByte) → AllSeen (length v) cmds → IsStarted cmds (client_reading_of a cmds v).past → IsPrefix (client_bytes a cmds v) (client_bytes a cmds (v ++ t))
+come_grows a cmds v t seen started =
+    let P = (client_reading_of a cmds v).past in
+    let r = reads_more a cmds v t in
+    subst (λ (past : Past). IsPrefix (client_bytes a cmds v) (sent_all a.first_sequence 0 (sent_by a cmds past))) (sym r.behind)
+    (bytes_prefix a (sent_by a cmds P) (sent_by a cmds (newest_first r.more P)) (sent_more a (length v) cmds r.more P seen (stands_behind a cmds v t r) started))
 
 pub started_later : (a : Asker) (cmds : Commands) (v t : List TimedByte) → IsStarted cmds (client_reading_of a cmds v).past → IsStarted cmds (client_reading_of a cmds (v ++ t)).past
 started_later a cmds v t (untold e) = untold e
@@ -278,7 +285,7 @@ flow_down s w i n o = by o
     by (Some fault) = record { up = up; down = delivered_prefix w.clock w.down n (server_stream s w) i.down; seen = seen; started = started_later s.asker w.cmds w.down t i.started }
     by None = record { up = up; down = delivered_prefix w.clock w.down n (server_stream s w) i.down; seen = seen; started = started_later s.asker w.cmds w.down t i.started }
 
-flow_kept : (flight : InFlight) (s : Setup) (w : World) → Flow s w → (e : Step) → Flow s (happens flight s w e)
+pub flow_kept : (flight : InFlight) (s : Setup) (w : World) → Flow s w → (e : Step) → Flow s (happens flight s w e)
 flow_kept flight s w i (steps.Ask request part) = flow_told flight s w i (Ask request part) (ask_fault flight s.asker w.cmds w.down (Ask request part)) refl
 flow_kept flight s w i steps.Renew = flow_told flight s w i Renew (ask_fault flight s.asker w.cmds w.down Renew) refl
 flow_kept flight s w i steps.Close = flow_told flight s w i Close (ask_fault flight s.asker w.cmds w.down Close) refl

@@ -38,7 +38,8 @@ use Rattle.ua_conn.proofs.BothEnds.SpokenTurnLemmas.{parts_within}
 use Rattle.ua_conn.proofs.BothEnds.SpokenTableLemmas.{hears}
 use Rattle.ua_conn.proofs.BothEnds.AnswerWalkLemmas.{expected_got}
 use Rattle.ua_conn.proofs.ClientEnd.CommandLemmas.{answers_stay, new_wanted}
-use Rattle.ua_conn.proofs.BothEnds.ServerWalkLemmas.{request_took}
+use Rattle.ua_conn.proofs.BothEnds.OrderLemmas.{order_join}
+use Rattle.ua_conn.proofs.BothEnds.ServerWalkLemmas.{Took, request_took}
 
 -- ---- tokens by their ids
 
@@ -153,15 +154,6 @@ numbered_parts : (n token : ℕ) (parts : List Part) → numbered_after n (map (
 numbered_parts n token [] = omega arith
 numbered_parts n token (p ∷ parts) = numbered_parts (n + 1) token parts ∙ omega arith
 
-pub order_join : (s : Setup) (ls ls2 : List Asked) (vs vs2 : List Served) (zs zs2 : List Answer) → length vs ≡ length ls → length zs ≡ length ls → AnswersInOrder s ls vs zs → AnswersInOrder s ls2 vs2 zs2
-    → AnswersInOrder s (ls ++ ls2) (vs ++ vs2) (zs ++ zs2)
-order_join s [] ls2 [] vs2 [] zs2 a b h k = k
-order_join s [] ls2 (v ∷ vs) vs2 zs zs2 a b h k = absurd (omega (arith, a))
-order_join s [] ls2 [] vs2 (z ∷ zs) zs2 a b h k = absurd (omega (arith, b))
-order_join s (l ∷ ls) ls2 [] vs2 zs zs2 a b h k = absurd (omega (arith, a))
-order_join s (l ∷ ls) ls2 (v ∷ vs) vs2 [] zs2 a b h k = absurd (omega (arith, b))
-order_join s (l ∷ ls) ls2 (v ∷ vs) vs2 (z ∷ zs) zs2 a b h k = (h.0, order_join s ls ls2 vs vs2 zs zs2 (omega (arith, a)) (omega (arith, b)) h.1 k)
-
 -- the next id is answered, and those behind it are fresh
 fresh_ended : (n m : ℕ) (here after : Past) → n + 1 ≤ m → AreFresh n here → ended_ids after ≡ n ∷ ended_ids here → opened_ids after ≡ opened_ids here → AreFresh m after
 fresh_ended n m here after lt h ended opened = record {
@@ -179,6 +171,25 @@ pub record Fits (s : Setup) (cmds : Commands) (request : Request) (part : ℕ) :
   pub small : length (canon_request request) ≤ s.site.settings.limits.max_message
   pub few : part_count (length (canon_request request)) part ≤ s.site.settings.limits.max_chunks
   pub unspent : next_id cmds < 2 ^ 32
+
+-- what a server makes of its frames
+pub ask_took : (s : Setup) (cmds : Commands) (request : Request) (part o n sent said : ℕ) (there here : Past) (qs : List Frame)
+    → IsSetup s → Fits s cmds request part → 1 ≤ o → o ≤ n → n ≤ o + 1 → o < 2 ^ 32 → (hold : Hold s cmds o n sent said there here)
+    → (let a = agreed s.site (hello_by s.asker) in let id = next_id cmds in let parts = fill id (canon_request request) part in
+    AreSpoken qs (told s.site.channel o s.asker.first_sequence sent parts)
+    → Took s.site there qs (at a (two_newest (tokens_in there)) (Some (number_after s.asker.first_sequence (sent + length parts - 1))) None (Some (most hold.used o)))
+    (map (AnswerPart (most hold.used o)) (answer_parts a id (answer_body s.site.settings request (last_moment qs)))) (record { request = request; moment = last_moment qs } ∷ []) (tokens_in there))
+ask_took s cmds request part o n sent said there here qs h fit some low high short hold asked =
+    let a = agreed s.site (hello_by s.asker) in
+    let id = next_id cmds in
+    let parts = fill id (canon_request request) part in
+    let limits = s.site.settings.limits in
+    let bounds = h.site.settings.bounds.limits in
+    let tokens = two_newest (tokens_in there) in
+    let sending : IsSending s.site a tokens o id =
+    record { channel = h.site.channel_most; token = short; id = fit.unspent; tokens = some_two (tokens_in there) (omega (arith, hold.many, some, low)); receive = omega (arith, bounds.receive_most) } in
+    request_took s.site there a tokens hold.last None hold.used o id s.asker.first_sequence sent (canon_request request) request parts qs (tokens_in there) hold.known_is refl (names_known there o n hold.many some low high) sending h.asker.first_least asked
+    (parts_within id part a.ack.receive parts fit.room (fill_parts id part (canon_request request))) hold.next (fill_arrives limits.max_message limits.max_chunks id part (canon_request request) fit.some fit.small fit.few) (request_read request fit.value)
 
 -- its frames, and those of its answer, as told
 pub ask_keeps : (s : Setup) (cmds : Commands) (request : Request) (part now seen o n sent said : ℕ) (there here : Past) (qs ns : List Frame)
@@ -200,11 +211,8 @@ ask_keeps s cmds request part now seen o n sent said there here qs ns h fit some
     let known_there = names_known there o n hold.many some low high in
     let known_here = known_alike (granted_in here) (tokens_in there) o hold.tokens ∙ known_there in
     let arrives = fill_arrives limits.max_message limits.max_chunks id part (canon_request request) fit.some fit.small fit.few in
-    let sending : IsSending s.site a tokens o id =
-    record { channel = h.site.channel_most; token = short; id = fit.unspent; tokens = some_two (tokens_in there) (omega (arith, hold.many, some, low)); receive = omega (arith, bounds.receive_most) } in
     let greatest = most_is hold.used o hold.within in
-    let took = request_took s.site there a tokens hold.last None hold.used o id s.asker.first_sequence sent (canon_request request) request parts qs (tokens_in there) hold.known_is refl known_there sending h.asker.first_least asked
-    (parts_within id part a.ack.receive parts fit.room (fill_parts id part (canon_request request))) hold.next arrives (request_read request fit.value) in
+    let took = ask_took s cmds request part o n sent said there here qs h fit some low high short hold asked in
     let got = expected_got s (c ∷ cmds) here tokens_here hold.last_here request (last_moment qs) o id said ns (bytes_in here) (ended_ids here) (opened_ids here) (granted_in here) h fit.value clock short fit.unspent
     (some_two (granted_in here) (omega (arith, ids_count (granted_in here) (tokens_in there) hold.tokens, hold.many, some, low))) known_here hold.next_here spoken
     (record { known = hold.hears_is; ended = refl; opened = refl; granted = refl }) (omega arith) (new_wanted cmds request part now seen (bytes_in here) (ended_ids here) (hold.fresh.ended id (omega arith)) le) in
@@ -233,7 +241,7 @@ ask_keeps s cmds request part now seen o n sent said there here qs ns h fit some
         fresh = fresh_ended id (next_id (c ∷ cmds)) here (newest_first ns here) (omega arith) hold.fresh got.stands.ended got.stands.opened;
         answers_are = subst (λ zs. AnswersInOrder s (asked_in cmds ++ question ∷ []) (served_by s.site (newest_first qs there)) zs) (sym answered)
             (subst (λ vs. AnswersInOrder s (asked_in cmds ++ question ∷ []) vs (answers cmds here ++ item ∷ [])) (sym took.serves)
-            (order_join s (asked_in cmds) (question ∷ []) (served_by s.site there) (serving ∷ []) (answers cmds here) (item ∷ []) hold.many_served hold.many_answers hold.answers_are
+            (order_join s (asked_in cmds) (served_by s.site there) (answers cmds here) (question ∷ []) (serving ∷ []) (item ∷ []) hold.many_served hold.many_answers hold.answers_are
             (record { id = refl; request = refl; handed = refl; result = refl }, tt)));
         many_served = ap length took.serves ∙ omega (arith, length-append (served_by s.site there) (serving ∷ []), length-append (asked_in cmds) (question ∷ []), hold.many_served);
         many_answers = ap length answered ∙ omega (arith, length-append (answers cmds here) (item ∷ []), length-append (asked_in cmds) (question ∷ []), hold.many_answers);

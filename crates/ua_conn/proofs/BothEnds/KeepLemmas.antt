@@ -35,7 +35,7 @@ use Rattle.ua_conn.proofs.BothEnds.SpokenSessionLemmas.{open_body, close_body}
 use Rattle.ua_conn.proofs.BothEnds.SpokenTableLemmas.{hears}
 use Rattle.ua_conn.proofs.BothEnds.OpeningWalkLemmas.{token_here, renewal_got}
 use Rattle.ua_conn.proofs.ClientEnd.CommandLemmas.{answers_stay, new_due}
-use Rattle.ua_conn.proofs.BothEnds.ServerWalkLemmas.{taken_took, open_any, more_tokens, close_took}
+use Rattle.ua_conn.proofs.BothEnds.ServerWalkLemmas.{Took, taken_took, open_any, more_tokens, close_took}
 use Rattle.ua_conn.proofs.BothEnds.HoldLemmas.{ids_of, some_two, names_known, most_is, numbered_join, Hold, Keeps, tokens_count}
 
 -- ---- open requests that are answered
@@ -66,6 +66,33 @@ newest_counted site past n many =
     let opens = filter (λ f. is_open (kind_of f.bytes)) past in
     newest site opens ∙ omega (arith, tokens_count opens, many)
 
+-- what a server makes of it
+pub renew_took : (s : Setup) (cmds : Commands) (now o n sent said : ℕ) (there here : Past) (q : Frame) → IsSetup s → 1 ≤ n → n + 1 < 2 ^ 32 → next_id cmds < 2 ^ 32 → now < 2 ^ 63 → (hold : Hold s cmds o n sent said there here)
+    → (let a = agreed s.site (hello_by s.asker) in let id = next_id cmds in let tokens = two_newest (tokens_in there) in let token = next_token tokens q.moment s.asker.config.lifetime in
+    let number = number_after s.asker.first_sequence sent in
+    q.bytes ≡ spell (Opens s.site.channel number id (open_body now id 1 s.asker.config.lifetime))
+    → Took s.site there (q ∷ []) (at a (two_newest (token ∷ tokens)) (Some number) None hold.used) (Opened id (opened_body id q.moment s.site.channel token) ∷ []) [] (token ∷ tokens_in there))
+renew_took s cmds now o n sent said there here q h some few unspent clock hold asked =
+    let a = agreed s.site (hello_by s.asker) in
+    let id = next_id cmds in
+    let lifetime = s.asker.config.lifetime in
+    let bounds = h.site.settings.bounds.limits in
+    let tokens = two_newest (tokens_in there) in
+    let token = next_token tokens q.moment lifetime in
+    let number = number_after s.asker.first_sequence sent in
+    let body = open_body now id 1 lifetime in
+    let request = open_request_at now id 1 lifetime in
+    let short = open_request_length now id 1 lifetime in
+    let there_some = some_two (tokens_in there) (omega (arith, hold.many, some)) in
+    let own : s.site.channel ≡ awaited_channel (channel_of s.site (at a tokens hold.last None hold.used)) = sym (ap (λ b. cond b 0 s.site.channel) (some_tokens tokens there_some)) in
+    let type : request.request_type ≡ pos (awaited_type (channel_of s.site (at a tokens hold.last None hold.used))) = sym (ap (λ b. pos (cond b 0 1)) (some_tokens tokens there_some)) in
+    let reads = open_request_read now id 1 lifetime clock unspent (lit< tt) h.asker.config.lifetime in
+    let one = open_taken s.site a tokens hold.last hold.used s.site.channel number id body request q asked own (omega (arith, short)) (omega (arith, bounds.receive_least, h.asker.config.buffer_least))
+    h.site.channel_most (number_fits s.asker.first_sequence sent) unspent hold.next (omega (arith, newest_counted s.site there n hold.many, few)) reads type refl in
+    let read = is_read q (Opens s.site.channel number id body) asked (omega (arith, short)) (h.site.channel_most, number_fits s.asker.first_sequence sent, unspent) in
+    taken_took s.site there q (at a tokens hold.last None hold.used) _ _ [] (token ∷ tokens_in there) hold.known_is one (open_any s.site (at a tokens hold.last None hold.used) q _ read.kind one.goes.0)
+    (more_tokens s.site q there s.site.channel number id body request read reads)
+
 pub renew_keeps : (s : Setup) (cmds : Commands) (now seen o n sent said : ℕ) (there here : Past) (q x : Frame)
     → IsSetup s → 1 ≤ n → n + 1 < 2 ^ 32 → next_id cmds < 2 ^ 32 → now < 2 ^ 63 → q.moment < 2 ^ 63 → seen ≤ bytes_in here → Hold s cmds o n sent said there here
     → (let id = next_id cmds in let token = next_token (two_newest (tokens_in there)) q.moment s.asker.config.lifetime in
@@ -77,23 +104,11 @@ renew_keeps s cmds now seen o n sent said there here q x h some few unspent cloc
     let id = next_id cmds in
     let lifetime = s.asker.config.lifetime in
     let c : Command = record { act = Renew; moment = now; seen = seen } in
-    let bounds = h.site.settings.bounds.limits in
     let tokens = two_newest (tokens_in there) in
     let token = next_token tokens q.moment lifetime in
-    let number = number_after s.asker.first_sequence sent in
-    let body = open_body now id 1 lifetime in
-    let request = open_request_at now id 1 lifetime in
-    let short = open_request_length now id 1 lifetime in
-    let there_some = some_two (tokens_in there) (omega (arith, hold.many, some)) in
-    let own : s.site.channel ≡ awaited_channel (channel_of s.site (at a tokens hold.last None hold.used)) = sym (ap (λ b. cond b 0 s.site.channel) (some_tokens tokens there_some)) in
-    let type : request.request_type ≡ pos (awaited_type (channel_of s.site (at a tokens hold.last None hold.used))) = sym (ap (λ b. pos (cond b 0 1)) (some_tokens tokens there_some)) in
     let newest_is = newest_counted s.site there n hold.many in
-    let reads = open_request_read now id 1 lifetime clock unspent (lit< tt) h.asker.config.lifetime in
-    let one = open_taken s.site a tokens hold.last hold.used s.site.channel number id body request q asked own (omega (arith, short)) (omega (arith, bounds.receive_least, h.asker.config.buffer_least))
-    h.site.channel_most (number_fits s.asker.first_sequence sent) unspent hold.next (omega (arith, newest_is, few)) reads type refl in
-    let read = is_read q (Opens s.site.channel number id body) asked (omega (arith, short)) (h.site.channel_most, number_fits s.asker.first_sequence sent, unspent) in
-    let took = taken_took s.site there q (at a tokens hold.last None hold.used) _ _ [] (token ∷ tokens_in there) hold.known_is one (open_any s.site (at a tokens hold.last None hold.used) q _ read.kind one.goes.0)
-    (more_tokens s.site q there s.site.channel number id body request read reads) in
+    let took = renew_took s cmds now o n sent said there here q h some few unspent clock hold asked in
+    let number = number_after s.asker.first_sequence sent in
     let got = renewal_got s (c ∷ cmds) here (two_newest (granted_in here)) hold.last_here q.moment (number_after 1 said) id token x (bytes_in here) (ended_ids here) (opened_ids here) (granted_in here)
     h moment (number_fits 1 said) unspent (omega (arith, newest_is, few)) (omega (arith, revised_fits lifetime)) hold.next_here opened
     (record { known = hold.hears_is; ended = refl; opened = refl; granted = refl }) (omega arith) (new_due cmds now seen (bytes_in here) (opened_ids here) hold.none_due (hold.fresh.opened id (omega arith)) le) in

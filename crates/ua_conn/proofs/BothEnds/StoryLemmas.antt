@@ -77,20 +77,20 @@ all_spelled first n (x ∷ xs) = λ i. sent_spelled (number_after first n) x i +
 
 -- ---- their sizes
 
-abbrev HasSize : Sent → Type 0
+abbrev pub HasSize : Sent → Type 0
 HasSize (Greeting hello) = is_long hello.url ≡ false
 HasSize (Opening channel id body) = 79 + length body < 2 ^ 32
 HasSize (Asking channel token part) = 24 + length part.bytes < 2 ^ 32
 HasSize (Closing channel token id body) = 24 + length body < 2 ^ 32
 
-abbrev HaveSizes : List Sent → Type 0
+abbrev pub HaveSizes : List Sent → Type 0
 HaveSizes xs = AllByRecursion HasSize xs
 
 sizes_both : (xs ys : List Sent) → HaveSizes xs → HaveSizes ys → HaveSizes (xs ++ ys)
 sizes_both [] ys h k = k
 sizes_both (x ∷ xs) ys h k = (h.0, sizes_both xs ys h.1 k)
 
-all_sized : (first n : ℕ) (xs : List Sent) → HaveSizes xs → AreSized (all_spoken first n xs)
+pub all_sized : (first n : ℕ) (xs : List Sent) → HaveSizes xs → AreSized (all_spoken first n xs)
 all_sized first n [] h = tt
 all_sized first n (Greeting hello ∷ xs) h = (h.0, all_sized first (more_sent n (Greeting hello)) xs h.1)
 all_sized first n (Opening channel id body ∷ xs) h = (h.0, all_sized first (more_sent n (Opening channel id body)) xs h.1)
@@ -264,7 +264,7 @@ cut_came : (w : World) (v : List TimedByte) (o : Option ClientFault) → AreCut 
 cut_came w v (Some fault) h = h
 cut_came w v None h = h
 
-cut_kept : (flight : InFlight) (s : Setup) (w : World) (e : Step) → s.asker.config.buffer ≤ 1048576 → AreCut w.cmds → AreCut (happens flight s w e).cmds
+pub cut_kept : (flight : InFlight) (s : Setup) (w : World) (e : Step) → s.asker.config.buffer ≤ 1048576 → AreCut w.cmds → AreCut (happens flight s w e).cmds
 cut_kept flight s w (steps.Ask request part) most h = cut_told flight s w (Ask request part) (ask_fault flight s.asker w.cmds w.down (Ask request part)) most refl h
 cut_kept flight s w steps.Renew most h = cut_told flight s w Renew (ask_fault flight s.asker w.cmds w.down Renew) most refl h
 cut_kept flight s w steps.Close most h = cut_told flight s w Close (ask_fault flight s.asker w.cmds w.down Close) most refl h

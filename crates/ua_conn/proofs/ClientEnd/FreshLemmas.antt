@@ -37,7 +37,7 @@ pub or_none : (x y : Option ClientFault) → or_fault x y ≡ None → y ≡ Non
 or_none None y h = h
 or_none (Some fault) y h = absurd (cc h)
 
-is_open_tells : (kind : Option Kind) → is_open kind ≡ true → kind ≡ Some kinds.Open
+pub is_open_tells : (kind : Option Kind) → is_open kind ≡ true → kind ≡ Some kinds.Open
 is_open_tells None h = absurd (cc h)
 is_open_tells (Some kinds.Hello) h = absurd (cc h)
 is_open_tells (Some kinds.Acknowledge) h = absurd (cc h)
@@ -58,7 +58,7 @@ is_message_tells (Some kinds.Message) h = refl
 is_message_tells (Some kinds.Close) h = absurd (cc h)
 
 -- the rows of a frame that stands, by its type
-rows_of_kind : (a : Asker) (k : ClientKnown) (due : Option ℕ) (wanted : Option Request) (usable : Bool) (f : Frame) (kind : Option Kind) → client_fault_by a k due wanted usable f ≡ None → kind_of f.bytes ≡ kind →
+pub rows_of_kind : (a : Asker) (k : ClientKnown) (due : Option ℕ) (wanted : Option Request) (usable : Bool) (f : Frame) (kind : Option Kind) → client_fault_by a k due wanted usable f ≡ None → kind_of f.bytes ≡ kind →
     first_of (client_rows a k due wanted usable f (flag_of f.bytes) kind) ≡ None
 unfolding client_fault_by
 rows_of_kind a k due wanted usable f kind h e =
@@ -71,7 +71,7 @@ message_wanted a k due wanted usable f h m =
     let no = all_no (client_rows a k due wanted usable f (flag_of f.bytes) (Some kinds.Message)) (rows_of_kind a k due wanted usable f (Some kinds.Message) h (is_message_tells (kind_of f.bytes) m)) in
     no.1.1.1.1.1.1.0
 
-not_false : (b : Bool) → not b ≡ false → b ≡ true
+pub not_false : (b : Bool) → not b ≡ false → b ≡ true
 not_false true h = refl
 not_false false h = absurd (cc h)
 
