@@ -4,6 +4,7 @@ ghost use Rattle.ua_chunk.specs.NumberLaws.{NumbersFollow};
 ghost use Rattle.ua_chunk.specs.CutLaws.{FillIsTheCut};
 ghost use Rattle.ua_chunk.specs.LayoutLaws.{LayoutsAreRead, IsWritten};
 ghost use Rattle.ua_chunk.specs.AssemblyLaws.{AssemblesAnyCut};
+ghost use Rattle.ua_chunk.specs.ContentLaws.{ContentsAreRead};
 
 /// The numbers of a sender begin where it says, stay from 1 to 4294966272, and each follows the one before it.
 /// OPC 10000-6, 6.7.2.4.
@@ -30,4 +31,10 @@ pub fn written_is_read()
 /// However a body is cut, an assembly with room for it takes each part and gives the body back. OPC 10000-6, 6.7.2.
 pub fn assembles_any_cut()
     ensures { AssemblesAnyCut }
+{}
+
+/// Each frame that an end writes reads as its content, by any limit that it is within: HEL, ACK, ERR, OPN, CLO, the
+/// frame of each part of a message, and the abort of one. OPC 10000-6, 6.7.2, 6.7.3 and 7.1.2.
+pub fn contents_are_read()
+    ensures { ContentsAreRead }
 {}

@@ -4,6 +4,7 @@
 mod abort;
 mod assembly;
 mod chunk;
+mod content;
 pub mod laws;
 mod opening;
 mod sequence;
@@ -13,6 +14,7 @@ mod writing;
 
 pub use assembly::{AddFault, Added, Assembly};
 pub use chunk::{Chunk, message_chunk};
+pub use content::{Content, ContentFault, content_of};
 pub use opening::{OpenChunk, POLICY_NONE, open_chunk};
 pub use sequence::{Sequence, follows};
 pub use writing::{Head, chunk_count, write_abort, write_chunks, write_close, write_open};

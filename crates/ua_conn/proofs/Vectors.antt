@@ -7,7 +7,7 @@ use Rattle.ua_frame.specs.declared.limits.Limits.{Limits}
 use Rattle.ua_disco.specs.declared.application.Application.{Application}
 use Rattle.ua_disco.specs.declared.endpoint.Endpoint.{Endpoint}
 use Rattle.ua_disco.specs.Configuration.{Configuration}
-use Rattle.ua_conn.specs.Site.{Site}
+use Rattle.ua_conn.specs.server.Site.{Site}
 
 -- ---- numbers and parts
 

@@ -13,8 +13,8 @@ use Rattle.ua_channel.specs.declared.token.Token.{Token}
 use Rattle.ua_channel.specs.Token.{revised, two_newest}
 use Rattle.ua_channel.specs.Channel.{most}
 use Rattle.ua_service.specs.declared.channel.OpenRequest.{OpenRequest}
-use Rattle.ua_conn.specs.Site.{Site}
-pub use Rattle.ua_conn.specs.declared.agreed.Agreed.{Agreed}
+use Rattle.ua_conn.specs.server.Site.{Site}
+pub use Rattle.ua_conn.specs.declared.server.agreed.Agreed.{Agreed}
 use Rattle.ua_service.specs.ChannelMessages.{open_of}
 
 -- the frames before a place, newest first

@@ -2,14 +2,14 @@
 
 ghost use Rattle.std.specs.Prelude.{◌≡◌, List};
 ghost use Rattle.ua_frame.specs.Streams.{TimedByte, Framed, cuts_of, rest_of};
-ghost use Rattle.ua_conn.specs.FirstFault.{StopsFirst};
-ghost use Rattle.ua_conn.specs.Held.{ByRecord};
-ghost use Rattle.ua_conn.specs.Asking.{in_flight};
-ghost use Rattle.ua_conn.specs.ClientHeld.{ClientByRecord, RefusedByRecord};
+ghost use Rattle.ua_conn.specs.server.FirstFault.{StopsFirst};
+ghost use Rattle.ua_conn.specs.server.Held.{ByRecord};
+ghost use Rattle.ua_conn.specs.client.Asking.{in_flight};
+ghost use Rattle.ua_conn.specs.client.Held.{ClientByRecord, RefusedByRecord};
 ghost use Rattle.ua_conn.specs.BothEnds.{Faithful};
-ghost use Rattle.ua_conn.specs.Legal.{HasRoom, BeginsLegal};
-ghost use Rattle.ua_conn.specs.Site.{Site};
-ghost use Rattle.ua_conn.specs.Whole.{StaysStopped, SameForAnyCut};
+ghost use Rattle.ua_conn.specs.server.Legal.{HasRoom, BeginsLegal};
+ghost use Rattle.ua_conn.specs.server.Site.{Site};
+ghost use Rattle.ua_conn.specs.server.Whole.{StaysStopped, SameForAnyCut};
 
 /// A stream is one list of frames and one rest, those of `cuts_of` and `rest_of`. OPC 10000-6, 7.1.2.2.
 pub fn framed()

@@ -1,18 +1,8 @@
-//! One end of a connection: what a server owes to a stream of bytes, and the server.
+//! Both ends of a connection: what each owes to a stream of bytes, the server and the client, and what they say to each other.
 #![tactic(auto)]
 
-mod agreed;
-mod answer;
-mod answers;
-mod ask_fault;
 mod client;
-mod client_config;
-mod client_fault;
-mod connection;
-mod conversation;
 mod converse;
-mod fault;
-mod hearing;
 pub mod laws;
 mod outcome;
 mod schedule;
@@ -20,16 +10,11 @@ mod server;
 mod status;
 mod story;
 
-pub use answer::{Answer, AnswerResult};
-pub use ask_fault::AskFault;
-pub use client::{Calls, Client};
-pub use client_config::ClientConfig;
-pub use client_fault::ClientFault;
-pub use conversation::answer_all;
+pub use client::{Answer, AnswerResult, AskFault, Calls, Client, ClientConfig, ClientFault};
 pub use converse::Converses;
 pub use outcome::{End, Outcome};
 pub use schedule::Step;
-pub use server::{Fed, FeedFault, Server};
+pub use server::{Fed, FeedFault, Server, answer_all};
 pub use story::{Setup, Story};
 
 #[cfg(test)]

@@ -2,14 +2,22 @@
 
 ghost use Rattle.std.specs.Prelude.{◌≡◌, ◌<◌, ◌≤◌, ◌^◌, ◌↔◌, [], drop, vec_len, true, false, None, IfOk, OnErr, IsErrOf};
 ghost use Rattle.ua_frame.specs.Streams.{moment_of as counted};
-ghost use Rattle.ua_conn.specs.Site.{Site};
-ghost use Rattle.ua_conn.specs.Replies.{ended};
-ghost use Rattle.ua_conn.specs.Held.{held};
-ghost use Rattle.ua_conn.specs.Feeding.{FeedsAll, FeedsPartAll};
+ghost use Rattle.ua_conn.specs.server.Site.{Site};
+ghost use Rattle.ua_conn.specs.server.Replies.{ended};
+ghost use Rattle.ua_conn.specs.server.Held.{held};
+ghost use Rattle.ua_conn.specs.server.Feeding.{FeedsAll, FeedsPartAll};
 
-use crate::connection::Connection;
-use crate::hearing::hear;
+mod agreed;
+mod answers;
+mod connection;
+mod conversation;
+mod fault;
+mod hearing;
+
 use crate::outcome::End;
+use crate::server::connection::Connection;
+use crate::server::hearing::hear;
+pub use conversation::answer_all;
 use std::alloc::{AllocError, Global};
 use std::marker::Model;
 use ua_disco::Settings;
@@ -77,7 +85,7 @@ pub struct Server<'a> {
 }
 
 impl<'a> Model for Server<'a> {
-    ghost use Rattle.ua_conn.specs.Feeding.{Shown, IsTimely};
+    ghost use Rattle.ua_conn.specs.server.Feeding.{Shown, IsTimely};
 
     ghost Value = { Shown };
 

@@ -89,7 +89,7 @@ fn kind_in(bytes: &[u8]) -> Option<Kind>
 }
 
 #[tactic(auto, unfolding(crate::specs::Streams::size_of))]
-fn size_in(bytes: &[u8]) -> u32
+pub(crate) fn size_in(bytes: &[u8]) -> u32
     requires { 8 ≤ length bytes.now }
     ensures { result ≡ size_of bytes.now }
 {

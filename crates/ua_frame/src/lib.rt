@@ -2,6 +2,7 @@
 #![tactic(auto)]
 
 mod acknowledge;
+mod buffer;
 mod error_frame;
 mod frame;
 mod hello;
@@ -13,6 +14,7 @@ pub mod status;
 mod writing;
 
 pub use acknowledge::Ack;
+pub use buffer::FrameBuf;
 pub use error_frame::ErrorFrame;
 pub use frame::{Frame, frame_at};
 pub use hello::Hello;

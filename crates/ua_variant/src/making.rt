@@ -19,7 +19,7 @@ use crate::shape::is_shape_of;
 use crate::stamps::Stamps;
 use crate::variant::{Body, DataValue, Element, Variant};
 use std::alloc::Global;
-use ua_value::{Array, DateTime, StatusCode, Wire};
+use ua_value::{Array, DateTime, StatusCode, Wire, let_go};
 
 /// How deep values may be nested.
 const DEEPEST: u8 = 100;
@@ -96,10 +96,12 @@ impl Variant {
         ensures refused { fault_of result ≡ scalar_fault (element value) }
     {
         if matches!(value.kind(), Kind::Variant) {
+            let_go(value);
             return Err(VariantFault::SingleVariant);
         }
         let inside = value.depth();
         if inside >= DEEPEST {
+            let_go(value);
             return Err(VariantFault::TooDeep);
         }
         Ok(Variant {
@@ -129,14 +131,17 @@ impl Variant {
         ensures refused { fault_of result ≡ array_fault (kind_of kind) (items_in elements) (option_map (λ d. d.items) dimensions) }
     {
         if !are_all_of(kind, &elements) {
+            let_go((elements, dimensions));
             return Err(VariantFault::MixedKinds);
         }
         let dimensions = array_of(dimensions);
         if !has_shape(count_in(&elements), &dimensions) {
+            let_go((elements, dimensions));
             return Err(VariantFault::BadDimensions);
         }
         let inside = levels_in(&elements);
         if inside >= DEEPEST {
+            let_go((elements, dimensions));
             return Err(VariantFault::TooDeep);
         }
         Ok(Variant {
@@ -193,6 +198,7 @@ impl DataValue {
             return Ok(DataValue::of(None, stamps));
         };
         if value.levels >= DEEPEST {
+            let_go(value);
             return Err(VariantFault::TooDeep);
         }
         let value = Box::new(alloc, value)?;

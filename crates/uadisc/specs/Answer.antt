@@ -6,8 +6,8 @@ use Rattle.hex.specs.Hex.{encode_lower}
 use Rattle.ua_frame.specs.Streams.{Piece, TimedByte, moment_of, timed}
 use Rattle.ua_disco.specs.Configuration.{Configuration}
 use Rattle.uadisc.specs.End.{end_status}
-use Rattle.ua_conn.specs.Replies.{reply_bytes, end_of}
-use Rattle.ua_conn.specs.Site.{Site}
+use Rattle.ua_conn.specs.server.Replies.{reply_bytes, end_of}
+use Rattle.ua_conn.specs.server.Site.{Site}
 use Rattle.ua_conn.specs.declared.outcome.End.{End}
 use Rattle.ua_conn.specs.declared.outcome.End.TheVariants.{Closed, InputEnded, Truncated, Refused, LinkFailed, TurnsSpent, NoMemory}
 use Rattle.uadisc.specs.Script.{Timed, script_in}

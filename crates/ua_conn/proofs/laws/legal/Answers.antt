@@ -1,5 +1,5 @@
-use Rattle.ua_conn.proofs.LegalLaw.{legal_law}
-use Rattle.ua_conn.proofs.Opening.{opens}
+use Rattle.ua_conn.proofs.ServerEnd.LegalLemmas.{legal_law}
+use Rattle.ua_conn.proofs.ServerEnd.OpeningLemmas.{opens}
 use Rattle.ua_conn.proofs.laws.legal.Goals as goal
 
 pub returns : goal.returns

@@ -1,5 +1,5 @@
 use Rattle.std.proofs.Common.{ap}
-use Rattle.ua_conn.specs.Replies.{reply_bytes, handed, end_of}
+use Rattle.ua_conn.specs.server.Replies.{reply_bytes, handed, end_of}
 use Rattle.ua_conn.proofs.laws.same_for_any_cut.Goals as goal
 
 pub returns : goal.returns

@@ -1,4 +1,4 @@
-use Rattle.ua_conn.proofs.Stopped.{stays}
+use Rattle.ua_conn.proofs.ServerEnd.StopLemmas.{stays}
 use Rattle.ua_conn.proofs.laws.stays_stopped.Goals as goal
 
 pub returns : goal.returns

@@ -2,10 +2,10 @@ use Rattle.std.proofs.Common.{w64, ◌≡◌, ◌∙◌, ◌++◌, ℕ, List, Op
 use Rattle.std.proofs.lemmas.Int.{to_z-of_z}
 use Rattle.ua_frame.specs.Streams.{Piece, moment_of}
 use Rattle.ua_service.specs.declared.request.Request.{Request}
-use Rattle.ua_conn.specs.Held.{Held}
-use Rattle.ua_conn.specs.Taking.{Running}
-use Rattle.ua_conn.specs.Feeding.{Hears, HearsPart}
-use Rattle.ua_conn.proofs.OnePieceMore.{feeds, feeds_part, feeds_nothing}
+use Rattle.ua_conn.specs.server.Held.{Held}
+use Rattle.ua_conn.specs.server.Taking.{Running}
+use Rattle.ua_conn.specs.server.Feeding.{Hears, HearsPart}
+use Rattle.ua_conn.proofs.ServerEnd.PieceLemmas.{feeds, feeds_part, feeds_nothing}
 use Rattle.ua_conn.proofs.server.Server.feed.Goals as goal
 
 is_none_by : {A : Type 0} (o : Option A) → is_some o ≡ false → o ≡ None

@@ -1,6 +1,6 @@
 use Rattle.std.proofs.Common.{false}
 use Rattle.ua_frame.specs.Streams.{cuts_within, rest_within}
-use Rattle.ua_conn.specs.Held.{held}
+use Rattle.ua_conn.specs.server.Held.{held}
 use Rattle.ua_conn.proofs.server.Server.new.Goals as goal
 
 pub returns : goal.returns

@@ -1,0 +1,15 @@
+pub mod WorkedRows
+pub mod PlaceLemmas
+pub mod ReadingLemmas
+pub mod KnownLemmas
+pub mod RecordLemmas
+pub mod FreshLemmas
+pub mod RunLemmas
+pub mod GainLemmas
+pub mod StopLemmas
+pub mod CommandLemmas
+pub mod PendingLemmas
+pub mod IdLemmas
+pub mod MatchedLemmas
+pub mod CountLemmas
+pub mod AcceptedLemmas

@@ -1,0 +1,12 @@
+pub mod Asker
+pub mod Commands
+pub mod Past
+pub mod Pending
+pub mod Faults
+pub mod Reading
+pub mod Questions
+pub mod Sending
+pub mod Asking
+pub mod Held
+pub mod Feeding
+pub mod Machine

@@ -1,0 +1,17 @@
+pub mod Site
+pub mod Answers
+pub mod Faults
+pub mod Replies
+pub mod Held
+pub mod Machine
+pub mod FirstFault
+pub mod Legal
+pub mod Whole
+pub mod Effects
+pub mod Taking
+pub mod Ranges
+pub mod Unread
+pub mod Opening
+pub mod Parts
+pub mod Settled
+pub mod Feeding

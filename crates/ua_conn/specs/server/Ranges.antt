@@ -1,0 +1,41 @@
+-- What a connection is made of, and the ranges that its numbers keep to.
+use Rattle.std.specs.Prelude.{◌≡◌, ℕ, ◌<◌, ◌≤◌, ◌^◌, false, Option, IfSome}
+use Rattle.ua_frame.specs.declared.limits.Limits.{Limits}
+use Rattle.ua_chunk.specs.Gathered.{Gathered}
+use Rattle.ua_chunk.specs.NumberLaws.{IsNumber}
+use Rattle.ua_chunk.specs.Half.{Half}
+use Rattle.ua_channel.specs.Channel.{Shown}
+use Rattle.ua_disco.specs.Configuration.{Configuration}
+use Rattle.ua_conn.specs.Past.{Agreed, Known}
+use Rattle.ua_conn.specs.server.Taking.{Running}
+
+-- OPC 10000-6, 7.1.2.3: an end has buffers of at least 8192 bytes. Ours have at most 1048576.
+pub record IsBuffer (n : ℕ) : Type 0 where
+  pub least : 8192 ≤ n
+  pub most : n ≤ 1048576
+
+-- what is received so far, between two frames
+pub record IsBetween (limits : Limits) (half : Gathered) : Type 0 where
+  pub max_message : half.max_message ≡ limits.max_message
+  pub max_chunks : half.max_chunks ≡ limits.max_chunks
+  pub whole : half.whole ≡ false
+  pub short : half.max_message < 2 ^ 32
+
+-- the frames that the client takes hold a header, the numbers of a chunk and a part of an answer
+pub record IsConnection (limits : Limits) (channel id : ℕ) (agreed : Option Agreed) (half : Gathered) (next : ℕ) : Type 0 where
+  pub same : channel ≡ id
+  pub send : IfSome agreed (λ a. IsBuffer a.ack.send)
+  pub between : IsBetween limits half
+  pub number : IsNumber next
+
+-- what its parts say of the frames before
+abbrev pub known_of : Option Agreed → Shown → Option Half → Known
+known_of agreed channel half = record { limits = agreed; tokens = channel.channel.tokens; last = channel.channel.last; half = half; used = channel.channel.used }
+
+abbrev pub running_of : Configuration → ℕ → Option Agreed → Shown → Option Half → ℕ → Running
+running_of settings id agreed channel half next = record {
+  site = record { settings = settings; channel = id };
+  known = known_of agreed channel half;
+  next = next;
+  moment = channel.moment;
+}

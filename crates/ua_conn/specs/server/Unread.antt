@@ -1,0 +1,16 @@
+-- What comes of bytes that could not be read.
+use Rattle.ua_value.specs.declared.fault.ReadFault.{ReadFault}
+use Rattle.ua_value.specs.declared.fault.ReadFault.TheVariants as unread
+use Rattle.ua_chunk.specs.declared.assembly.AddFault.{AddFault}
+use Rattle.ua_chunk.specs.declared.assembly.AddFault.TheVariants as unadded
+use Rattle.ua_conn.specs.declared.server.fault.Fault.{Fault}
+use Rattle.ua_conn.specs.declared.server.fault.Fault.TheVariants.{Refused, NoMemory}
+
+-- Bytes that spell no value are refused.
+abbrev pub of_unread : ReadFault → Fault
+of_unread unread.Refused = Refused 0x80070000
+of_unread unread.NoMemory = NoMemory
+
+abbrev pub of_added : AddFault → Fault
+of_added (unadded.Refused status) = Refused status
+of_added unadded.NoMemory = NoMemory

@@ -1,0 +1,144 @@
+//! The parts of requests, and what is said to a whole one.
+
+ghost use Rattle.std.specs.Prelude.{◌≡◌, ◌<◌, ◌≤◌, ◌^◌, ◌++◌, ◌∷◌, [], length, false, is_ok, if◌then◌else◌, IfOk, OnOk, OnErr};
+ghost use Rattle.ua_frame.specs.declared.kind.Kind.TheVariants as kinds;
+ghost use Rattle.ua_chunk.specs.Layout.{chunk_of};
+ghost use Rattle.ua_chunk.specs.Numbers.{number_after};
+ghost use Rattle.ua_chunk.specs.NumberLaws.{IsNumber};
+ghost use Rattle.ua_chunk.specs.Written.{message_frames};
+ghost use Rattle.ua_conn.specs.server.Answers.{answer_body};
+ghost use Rattle.ua_conn.specs.server.Ranges.{IsBuffer};
+ghost use Rattle.ua_conn.specs.server.Replies.{is_over as passes, is_over_limits, answer_parts};
+ghost use Rattle.ua_conn.specs.server.Effects.{message_effect, Does, Judges};
+ghost use Rattle.ua_conn.specs.server.Parts.{gathered_rows, Gathers};
+
+use crate::server::agreed::Agreed;
+use crate::server::answers::answer_body;
+use crate::server::connection::Connection;
+use crate::server::connection::admission::heard;
+use crate::server::fault::Fault;
+use crate::status::BAD_RESPONSE_TOO_LARGE;
+use std::alloc::Global;
+use ua_chunk::{Added, Assembly, Chunk, Head, Sequence, chunk_count, write_abort, write_chunks};
+use ua_disco::Settings;
+use ua_frame::{Frame, Kind};
+use ua_service::{Request, read_request};
+use ua_value::NoMemory;
+
+/// Bytes of a chunk's header and numbers.
+const CHUNK_HEADER: u32 = 24;
+
+/// Puts a part to those before it. The result is the request that it makes whole, if any.
+fn gather(alloc: Global, half: &mut Assembly, chunk: &Chunk) -> Result<Option<Request>, Fault>
+    requires message { chunk.now.kind ≡ kinds.Message }
+    requires between { half.old.whole ≡ false }
+    requires short { half.old.max_message < 2 ^ 32 }
+    ensures judged { Judges (gathered_rows half.old chunk.now) (λ request. Gathers half.old half.new chunk.now request) result }
+    ensures whole { half.new.whole ≡ false }
+    ensures max_message { half.new.max_message ≡ half.old.max_message }
+    ensures max_chunks { half.new.max_chunks ≡ half.old.max_chunks }
+{
+    if half.add(chunk)? != Added::Whole {
+        return Ok(None);
+    }
+    let read = read_request(alloc, half.body());
+    half.clear();
+    Ok(Some(read?))
+}
+
+/// Whether a limit of the Hello, of which 0 is none, is passed.
+fn is_over(limit: u32, n: u64) -> bool
+    ensures { result ≡ passes limit n }
+{
+    limit != 0 && n > u64::from(limit)
+}
+
+/// Whether an answer with this body is larger than the client takes. OPC 10000-6, 7.1.2.3.
+fn is_too_large(agreed: &Agreed, body: &[u8]) -> bool
+    requires { IsBuffer agreed.now.ack.send }
+    ensures { result ≡ is_over_limits agreed.now body.now }
+{
+    let len = body.len() as u64;
+    is_over(agreed.answer_bytes, len)
+        || is_over(
+            agreed.answer_parts,
+            chunk_count(len, agreed.ack.send - CHUNK_HEADER),
+        )
+}
+
+/// Says an answer in parts, or gives it up where it is larger than the client takes. OPC 10000-6, 6.7.2 and 6.7.3.
+fn say(
+    agreed: &Agreed,
+    head: &Head,
+    body: &[u8],
+    next: &mut Sequence,
+    out: &mut Vec<u8>,
+) -> Result<(), NoMemory>
+    requires send { IsBuffer agreed.now.ack.send }
+    requires number { IsNumber next.old }
+    ensures said { out.new.items ≡ (if is_ok result then out.old.items ++ message_frames head.now.channel head.now.token next.old 0 (answer_parts agreed.now head.now.request_id body.now) else out.old.items) }
+    ensures numbered { next.new ≡ (if is_ok result then number_after next.old (length (answer_parts agreed.now head.now.request_id body.now)) else next.old) }
+{
+    if is_too_large(agreed, body) {
+        return write_abort(
+            head.channel,
+            head.token,
+            head.request_id,
+            BAD_RESPONSE_TOO_LARGE,
+            next,
+            out,
+        );
+    }
+    write_chunks(body, head, agreed.ack.send - CHUNK_HEADER, next, out)
+}
+
+/// Hands a request on. The result is the body of the answer to it.
+fn hand_on(
+    alloc: Global,
+    settings: &Settings,
+    request: Request,
+    now: u64,
+    asked: &mut Vec<Request>,
+) -> Result<Vec<u8>, NoMemory>
+    requires { now < 2 ^ 63 }
+    ensures body { IfOk result (λ body. body.items ≡ answer_body settings.now request now) }
+    ensures asked { OnOk result (asked.new.items ≡ asked.old.items ++ request ∷ []) }
+    ensures kept { OnErr result (asked.new.items ≡ asked.old.items) }
+{
+    let body = answer_body(alloc, settings, &request, now)?;
+    asked.push(request)?;
+    Ok(body)
+}
+
+impl<'a> Connection<'a> {
+    /// Takes a part of a request, and answers a whole one. OPC 10000-6, 6.7.2 and 6.7.3; OPC 10000-4, 7.35.
+    pub(crate) fn message(
+        &mut self,
+        frame: &Frame,
+        now: u64,
+        asked: &mut Vec<Request>,
+        out: &mut Vec<u8>,
+    ) -> Result<(), Fault>
+        requires kind { frame.now.kind ≡ Kind.Message }
+        requires stamp { now < 2 ^ 63 }
+        requires later { self.old.moment ≤ now }
+        ensures does { Does (message_effect self.old.site self.old.known now frame.now.flag (chunk_of frame.now.fields)) self.old self.new
+            (record { bytes = out.old.items; asked = asked.old.items }) (record { bytes = out.new.items; asked = asked.new.items }) result }
+        ensures moment { self.new.moment ≤ now }
+    {
+        let chunk = heard(&mut self.channel, frame, now)?;
+        let Some(request) = gather(self.alloc, &mut self.half, &chunk)? else {
+            return Ok(());
+        };
+        let body = hand_on(self.alloc, self.settings, request, now, asked)?;
+        if let Some(agreed) = self.agreed {
+            let head = Head {
+                channel: self.id,
+                token: self.channel.sending_token().unwrap(),
+                request_id: chunk.request_id(),
+            };
+            say(&agreed, &head, &body, &mut self.next, out)?;
+        }
+        Ok(())
+    }
+}

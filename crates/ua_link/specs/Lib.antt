@@ -1,0 +1,3 @@
+pub mod Clock
+pub mod Link
+pub mod MemoryLink
