@@ -34,17 +34,21 @@ impl Shown<Array<UaString>> for Texts {
     }
 }
 
+const TEXTS: &[u8] = &[
+    0x02, 0x00, 0x00, 0x00, 0x01, 0x00, 0x00, 0x00, 0x61, 0xff, 0xff, 0xff, 0xff,
+];
+
 #[test]
-fn arrays_of_numbers_and_of_texts(rt: HostRuntime) {
-    let alloc = rt.alloc();
+fn arrays_of_numbers(rt: HostRuntime) {
     for (bytes, items) in NUMBERS {
         assert!(rt;
-            is_whole::<Array<u16>, Numbers>(alloc, bytes, &Numbers(items)),
+            is_whole::<Array<u16>, Numbers>(rt.alloc(), bytes, &Numbers(items)),
             "{bytes:?}"
         );
     }
-    let texts: &[u8] = &[
-        0x02, 0x00, 0x00, 0x00, 0x01, 0x00, 0x00, 0x00, 0x61, 0xff, 0xff, 0xff, 0xff,
-    ];
-    assert!(rt; is_whole::<Array<UaString>, Texts>(alloc, texts, &Texts));
+}
+
+#[test]
+fn arrays_of_texts(rt: HostRuntime) {
+    assert!(rt; is_whole::<Array<UaString>, Texts>(rt.alloc(), TEXTS, &Texts));
 }

@@ -6,7 +6,7 @@ use crate::making::{
 };
 use crate::spelling::{Any, is_refused, is_whole};
 use std::alloc::{AllocError, Global};
-use ua_value::Wire;
+use ua_value::{StatusCode, Wire};
 use ua_variant::{DataValue, DiagnosticInfo, Element, Kind, Variant, VariantFault};
 
 /// What comes first, levels inside one another with their number, and what is inside them all.
@@ -37,6 +37,31 @@ fn are_too_deep<T: Wire>(alloc: Global, levels: Levels) -> bool {
     }
 }
 
+/// Whether the first are read, and the others are not.
+fn are_read<T: Wire>(alloc: Global, rows: &[Levels], deeper: &[Levels]) -> bool {
+    all_fit::<T>(alloc, rows) && all_are_too_deep::<T>(alloc, deeper)
+}
+
+fn all_fit<T: Wire>(alloc: Global, rows: &[Levels]) -> bool {
+    let mut all = true;
+    for levels in rows {
+        if !fit::<T>(alloc, *levels) {
+            all = false;
+        }
+    }
+    all
+}
+
+fn all_are_too_deep<T: Wire>(alloc: Global, rows: &[Levels]) -> bool {
+    let mut all = true;
+    for levels in rows {
+        if !are_too_deep::<T>(alloc, *levels) {
+            all = false;
+        }
+    }
+    all
+}
+
 const ARRAY: &[u8] = &[0x98, 1, 0, 0, 0];
 
 /// Arrays of Variants, DataValues in Variants, DiagnosticInfos in a Variant.
@@ -52,19 +77,20 @@ const DEEPER_VARIANTS: [Levels; 3] = [
     (&[0x19], &[0x40], 99, &[0]),
 ];
 
+const DATA: [Levels; 1] = [(&[], &[0x01, 0x17], 49, &[0x01, 0])];
+
+const DEEPER_DATA: [Levels; 1] = [(&[], &[0x01, 0x17], 50, &[0])];
+
+const DIAGNOSTICS: [Levels; 1] = [(&[], &[0x40], 99, &[0])];
+
+const DEEPER_DIAGNOSTICS: [Levels; 1] = [(&[], &[0x40], 100, &[0])];
+
 #[test]
 fn a_hundred_levels_are_read_and_no_more(rt: HostRuntime) {
     let alloc = rt.alloc();
-    for levels in VARIANTS {
-        assert!(rt; fit::<Variant>(alloc, levels));
-    }
-    for levels in DEEPER_VARIANTS {
-        assert!(rt; are_too_deep::<Variant>(alloc, levels));
-    }
-    assert!(rt; fit::<DataValue>(alloc, (&[], &[0x01, 0x17], 49, &[0x01, 0])));
-    assert!(rt; are_too_deep::<DataValue>(alloc, (&[], &[0x01, 0x17], 50, &[0])));
-    assert!(rt; fit::<DiagnosticInfo>(alloc, (&[], &[0x40], 99, &[0])));
-    assert!(rt; are_too_deep::<DiagnosticInfo>(alloc, (&[], &[0x40], 100, &[0])));
+    assert!(rt; are_read::<Variant>(alloc, &VARIANTS, &DEEPER_VARIANTS));
+    assert!(rt; are_read::<DataValue>(alloc, &DATA, &DEEPER_DATA));
+    assert!(rt; are_read::<DiagnosticInfo>(alloc, &DIAGNOSTICS, &DEEPER_DIAGNOSTICS));
 }
 
 fn data_of_100(alloc: Global) -> Result<DataValue, VariantFault> {
@@ -88,15 +114,43 @@ fn are_made<T: Wire>(alloc: Global, made: Result<T, VariantFault>, levels: Level
     }
 }
 
+fn data_is_made(alloc: Global) -> bool {
+    are_made(alloc, data_of_100(alloc), DATA[0])
+}
+
+/// A DataValue of a status, too.
+fn data_with_status(alloc: Global) -> Result<DataValue, VariantFault> {
+    let value = variant_of_99(alloc)?;
+    DataValue::new(
+        alloc,
+        Some(value),
+        Some(StatusCode(1)),
+        None,
+        None,
+        None,
+        None,
+    )
+}
+
+fn data_with_status_is_made(alloc: Global) -> bool {
+    let levels: Levels = (&[0x03], &[0x17, 0x01], 49, &[0, 1, 0, 0, 0]);
+    are_made(alloc, data_with_status(alloc), levels)
+}
+
+fn array_is_made(alloc: Global) -> bool {
+    are_made(alloc, array_of_100(alloc), (ARRAY, &[0x17, 0x01], 49, &[0]))
+}
+
+fn diagnostics_are_made(alloc: Global) -> bool {
+    are_made(alloc, diagnostics_of_100(alloc), DIAGNOSTICS[0])
+}
+
 #[test]
 fn a_hundred_levels_are_made(rt: HostRuntime) {
-    let alloc = rt.alloc();
-    let data: Levels = (&[], &[0x01, 0x17], 49, &[0x01, 0]);
-    assert!(rt; are_made(alloc, data_of_100(alloc), data));
-    let array: Levels = (ARRAY, &[0x17, 0x01], 49, &[0]);
-    assert!(rt; are_made(alloc, array_of_100(alloc), array));
-    let diagnostics: Levels = (&[], &[0x40], 99, &[0]);
-    assert!(rt; are_made(alloc, diagnostics_of_100(alloc), diagnostics));
+    assert!(rt; data_is_made(rt.alloc()));
+    assert!(rt; data_with_status_is_made(rt.alloc()));
+    assert!(rt; array_is_made(rt.alloc()));
+    assert!(rt; diagnostics_are_made(rt.alloc()));
 }
 
 fn scalar_of_101(alloc: Global) -> Result<Variant, VariantFault> {

@@ -1,6 +1,7 @@
 //! Structures with another value in each field.
 
-use crate::spelling::{Shown, are_texts, is_bytes, is_text, is_whole, joined};
+use crate::spelling::{Any, Shown, are_texts, is_bytes, is_text, is_whole, joined};
+use crate::vectors;
 use std::alloc::{AllocError, Global};
 use ua_service::{
     ApplicationDescription, CloseRequest, EndpointDescription, FindServersRequest,
@@ -188,6 +189,7 @@ impl Sample for ServiceFault {
 #[test]
 fn fields_of_headers(rt: HostRuntime) {
     let alloc = rt.alloc();
+    assert!(rt; is_whole::<RequestHeader, Any>(alloc, vectors::REQUEST_HEADER, &Any));
     assert!(rt; is_sample_of::<RequestHeader>(alloc, REQUEST_HEADER, b""));
     assert!(rt; is_sample_of::<CloseRequest>(alloc, REQUEST_HEADER, b""));
     assert!(rt; is_sample_of::<ResponseHeader>(alloc, RESPONSE_HEADER, b""));

@@ -31,18 +31,14 @@ pub(crate) fn is_not_made<T: Drop>(made: Result<T, VariantFault>, reason: Varian
     }
 }
 
-/// A list of short elements.
-fn list_of_two(
-    alloc: Global,
-    first: Element,
-    second: Element,
-) -> Result<Option<Vec<Element>>, NoMemory>
-    ensures { IfOk result (λ o. IsShortList (items_in o)) }
+/// The list, where its elements are short.
+fn short_list(items: Vec<Element>) -> Option<Vec<Element>>
+    ensures { IsShortList (items_in result) }
 {
-    if first.len() > 1000 || second.len() > 1000 {
-        return Ok(None);
+    match items.as_slice() {
+        [first, second] if first.len() <= 1000 && second.len() <= 1000 => Some(items),
+        _ => None,
     }
-    Ok(Some(vec![in alloc; first, second]?))
 }
 
 /// The array of one short element; of another, none.
@@ -132,8 +128,8 @@ pub(crate) fn shows<T: Drop, W: Shown<T>>(value: T, want: &W) -> bool {
 
 fn array_of_two(alloc: Global) -> Result<Variant, VariantFault> {
     let dimensions = [2, 1].to_vec(alloc)?;
-    let elements = list_of_two(alloc, Element::Int32(1), Element::Int32(2))?;
-    Variant::array(Kind::Int32, elements, Some(dimensions))
+    let elements = vec![in alloc; Element::Int32(1), Element::Int32(2)]?;
+    Variant::array(Kind::Int32, short_list(elements), Some(dimensions))
 }
 
 #[test]

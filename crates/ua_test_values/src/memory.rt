@@ -3,7 +3,7 @@
 
 use crate::frames::{AGREED, ERROR, TOLD, error_of, hello_of};
 use crate::making::{around, data_of};
-use crate::requests::header;
+use crate::requests::{Header, Session, request_of};
 use crate::spelling::{Shown, is_behind, is_text};
 use crate::variants::{DATA, DIAGNOSTICS, Depth};
 use crate::vectors::{
@@ -15,12 +15,12 @@ use std::alloc::{AllocError, Global};
 use ua_frame::ErrorFrame;
 use ua_frame::status::BAD_TCP_MESSAGE_TYPE_INVALID;
 use ua_service::{
-    Body, CloseRequest, EndpointDescription, OpenRequest, OpenResponse, Request, Response,
-    read_request,
+    Body, CloseRequest, EndpointDescription, OpenRequest, OpenResponse, Request, RequestHeader,
+    Response,
 };
 use ua_value::{
-    Array, ExpandedNodeId, Guid, Identifier, LocalizedText, NodeId, QualifiedName, ReadFault,
-    UaBytes, UaString, ValueFault, Wire, XmlElement,
+    Array, ExpandedNodeId, Guid, LocalizedText, NodeId, QualifiedName, ReadFault, UaBytes,
+    UaString, ValueFault, Wire, XmlElement,
 };
 use ua_variant::{DataValue, DiagnosticInfo, ExtensionObject, Variant, VariantFault};
 
@@ -250,18 +250,18 @@ fn responses_or_no_memory(rt: HostRuntime) {
     }
 }
 
-fn is_request_copied_or_no_memory(alloc: Global, request: &Request, body: &[u8]) -> bool {
-    match request.copy() {
+fn is_request_copied_or_no_memory<B: Session>(alloc: Global, request: &B, body: &[u8]) -> bool {
+    match request.copied() {
         Ok(copy) => is_body_written_or_no_memory(alloc, &copy, body),
         Err(_) => true,
     }
 }
 
-fn has_copy_or_no_memory(alloc: Global, body: &[u8]) -> bool {
+fn has_copy_or_no_memory<B: Session>(alloc: Global, body: &[u8]) -> bool {
     if body.len() > 1000 {
         return false;
     }
-    match read_request(alloc, body) {
+    match B::read_body(alloc, body) {
         Ok(request) => is_request_copied_or_no_memory(alloc, &request, body),
         Err(fault) => fault == ReadFault::NoMemory,
     }
@@ -274,7 +274,10 @@ fn copies_of_requests_or_no_memory(rt: HostRuntime) {
         ENDPOINTS_REQUEST_BODY,
         OTHER_REQUEST_BODY,
     ] {
-        assert!(rt; has_copy_or_no_memory(rt.alloc(), body), "{body:?}");
+        assert!(rt;
+            has_copy_or_no_memory::<Request>(rt.alloc(), body),
+            "{body:?}"
+        );
     }
 }
 
@@ -285,24 +288,17 @@ fn copies_of_endpoints_or_no_memory(rt: HostRuntime) {
     assert!(rt; is_full_or_no_memory::<EndpointDescription>(rt.alloc(), endpoint));
 }
 
-/// Making a request of another service takes no memory.
-fn is_made_or_no_memory(alloc: Global) -> bool {
-    let (Ok(header), Ok(rest)) = (header(alloc), b"\xAA\xBB".to_vec(alloc)) else {
-        return true;
-    };
-    let id = NodeId {
-        namespace: 0,
-        identifier: Identifier::Numeric(461),
-    };
-    match Request::other(id, header, rest) {
-        Some(request) => is_body_written_or_no_memory(alloc, &request, OTHER_REQUEST_BODY),
-        None => false,
+fn is_made_or_no_memory<H: Header>(alloc: Global) -> bool {
+    match request_of::<H>(alloc, (0, 461), b"\xAA\xBB") {
+        Ok(Some(request)) => is_body_written_or_no_memory(alloc, &request, OTHER_REQUEST_BODY),
+        Ok(None) => false,
+        Err(fault) => fault == ReadFault::NoMemory,
     }
 }
 
 #[test]
 fn other_requests_or_no_memory(rt: HostRuntime) {
-    assert!(rt; is_made_or_no_memory(rt.alloc()));
+    assert!(rt; is_made_or_no_memory::<RequestHeader>(rt.alloc()));
 }
 
 fn hello_or_no_memory(alloc: Global) -> bool {

@@ -6,11 +6,11 @@ use crate::vectors::{
     ENDPOINTS_REQUEST_BODY, FIND_REQUEST_BODY, OTHER_REQUEST_BODY, REQUEST_HEADER,
 };
 use std::alloc::Global;
-use ua_service::{OtherRequest, Request, RequestHeader, read_request};
-use ua_value::{Identifier, NodeId, ReadFault, Wire};
+use ua_service::{Body, OtherRequest, Request, RequestHeader};
+use ua_value::{Identifier, NoMemory, NodeId, ReadFault, Wire};
 
 /// The id of a request: its namespace and its number.
-type Id = (u16, u32);
+pub(crate) type Id = (u16, u32);
 
 fn numbered(id: Id) -> NodeId {
     NodeId {
@@ -19,41 +19,61 @@ fn numbered(id: Id) -> NodeId {
     }
 }
 
-/// The header with the handle 2.
-pub(crate) fn header(alloc: Global) -> Result<RequestHeader, ReadFault> {
-    Ok(RequestHeader::read(alloc, REQUEST_HEADER)?.0)
+/// A header of which a request of another service is made.
+pub(crate) trait Header: Wire {
+    type Message: Body;
+
+    fn other(self, id: Id, rest: Vec<u8>) -> Option<Self::Message>;
+}
+
+impl Header for RequestHeader {
+    type Message = Request;
+
+    fn other(self, id: Id, rest: Vec<u8>) -> Option<Request> {
+        Request::other(numbered(id), self, rest)
+    }
+}
+
+/// The request that is made under the id, of the header with the handle 2.
+pub(crate) fn request_of<H: Header>(
+    alloc: Global,
+    id: Id,
+    rest: &[u8],
+) -> Result<Option<H::Message>, ReadFault> {
+    let rest = rest.to_vec(alloc)?;
+    match H::read(alloc, REQUEST_HEADER) {
+        Ok((header, _)) => Ok(header.other(id, rest)),
+        Err(fault) => Err(fault),
+    }
 }
 
 /// Whether a request is made under the id, and written as the body.
-fn is_made(alloc: Global, id: Id, rest: &[u8], body: &[u8]) -> bool {
-    let (Ok(header), Ok(rest)) = (header(alloc), rest.to_vec(alloc)) else {
-        return false;
-    };
-    match Request::other(numbered(id), header, rest) {
-        Some(request) => is_body_of(alloc, &request, body),
-        None => false,
+fn is_made<H: Header>(alloc: Global, id: Id, rest: &[u8], body: &[u8]) -> bool {
+    match request_of::<H>(alloc, id, rest) {
+        Ok(Some(request)) => is_body_of(alloc, &request, body),
+        _ => false,
     }
 }
 
 /// Whether no request is made under the id.
-fn is_not_made(alloc: Global, id: Id) -> bool {
-    match header(alloc) {
-        Ok(header) => Request::other(numbered(id), header, Vec::new(alloc)).is_none(),
-        Err(_) => false,
-    }
+fn is_not_made<H: Header>(alloc: Global, id: Id) -> bool {
+    matches!(request_of::<H>(alloc, id, b""), Ok(None))
 }
 
 #[test]
 fn discovery_has_no_other_requests(rt: HostRuntime) {
     for number in [422, 428] {
-        assert!(rt; is_not_made(rt.alloc(), (0, number)), "{number}");
+        assert!(rt;
+            is_not_made::<RequestHeader>(rt.alloc(), (0, number)),
+            "{number}"
+        );
     }
 }
 
 /// Whether a request without a rest is made under the id, and written with these bytes before its header.
 fn is_made_behind(alloc: Global, id: Id, bytes: &[u8]) -> bool {
     match joined(alloc, bytes, REQUEST_HEADER) {
-        Ok(body) => is_made(alloc, id, b"", body.as_slice()),
+        Ok(body) => is_made::<RequestHeader>(alloc, id, b"", body.as_slice()),
         Err(_) => false,
     }
 }
@@ -72,21 +92,13 @@ fn other_requests_have_other_ids(rt: HostRuntime) {
     for (id, bytes) in IDS {
         assert!(rt; is_made_behind(rt.alloc(), id, bytes), "{bytes:?}");
     }
-    assert!(rt; is_made(rt.alloc(), (0, 461), b"\xAA\xBB", OTHER_REQUEST_BODY));
+    assert!(rt; is_made::<RequestHeader>(rt.alloc(), (0, 461), b"\xAA\xBB", OTHER_REQUEST_BODY));
 }
 
 fn is_session(type_id: &NodeId, header: &RequestHeader) -> bool {
     type_id.namespace == 0
         && matches!(&type_id.identifier, Identifier::Numeric(461))
         && header.request_handle == 2
-}
-
-fn has_rest(request: &Request, rest: &[u8]) -> bool {
-    match request {
-        Request::Other(other) => is_session(other.type_id(), other.header())
-            && other.rest() == rest,
-        _ => false,
-    }
 }
 
 fn are_parts(parts: (NodeId, RequestHeader, Vec<u8>), rest: &[u8]) -> bool {
@@ -100,23 +112,47 @@ fn other_of(request: Request) -> Option<OtherRequest> {
     }
 }
 
-fn gives_back(request: Request, rest: &[u8]) -> bool {
-    match other_of(request) {
-        Some(other) => are_parts(other.into_parts(), rest),
-        None => false,
+/// What may be a request for a session, and can be copied.
+pub(crate) trait Session: Body {
+    fn copied(&self) -> Result<Self, NoMemory>;
+
+    /// Whether it is one, with this rest.
+    fn has_rest(&self, rest: &[u8]) -> bool;
+
+    /// Whether it gives back the parts of one, with this rest.
+    fn gives_back(self, rest: &[u8]) -> bool;
+}
+
+impl Session for Request {
+    fn copied(&self) -> Result<Request, NoMemory> {
+        self.copy()
+    }
+
+    fn has_rest(&self, rest: &[u8]) -> bool {
+        match self {
+            Request::Other(other) => {
+                is_session(other.type_id(), other.header()) && other.rest() == rest
+            }
+            _ => false,
+        }
+    }
+
+    fn gives_back(self, rest: &[u8]) -> bool {
+        match other_of(self) {
+            Some(other) => are_parts(other.into_parts(), rest),
+            None => false,
+        }
     }
 }
 
 /// Whether the bytes are read as a request for a session that has this rest, and gives it back.
-fn keeps(alloc: Global, bytes: &[u8], rest: &[u8]) -> bool {
+fn keeps<B: Session>(alloc: Global, bytes: &[u8], rest: &[u8]) -> bool {
     if bytes.len() > 1000 {
         return false;
     }
-    match read_request(alloc, bytes) {
+    match B::read_body(alloc, bytes) {
         Ok(request) => {
-            is_body_of(alloc, &request, bytes)
-                && has_rest(&request, rest)
-                && gives_back(request, rest)
+            is_body_of(alloc, &request, bytes) && request.has_rest(rest) && request.gives_back(rest)
         }
         Err(_) => false,
     }
@@ -125,21 +161,29 @@ fn keeps(alloc: Global, bytes: &[u8], rest: &[u8]) -> bool {
 /// A rest of three bytes.
 fn keeps_more(alloc: Global) -> bool {
     match joined(alloc, OTHER_REQUEST_BODY, &[0xCC]) {
-        Ok(longer) => keeps(alloc, longer.as_slice(), b"\xAA\xBB\xCC"),
+        Ok(longer) => keeps::<Request>(alloc, longer.as_slice(), b"\xAA\xBB\xCC"),
         Err(_) => false,
+    }
+}
+
+/// How many bytes of the body are there, and the rest that is kept.
+const RESTS: [(usize, &[u8]); 3] = [(33, b""), (34, b"\xAA"), (35, b"\xAA\xBB")];
+
+fn keeps_beginning(alloc: Global, end: usize, rest: &[u8]) -> bool {
+    match OTHER_REQUEST_BODY.get(..end) {
+        Some(bytes) => keeps::<Request>(alloc, bytes, rest),
+        None => false,
     }
 }
 
 /// The body is accepted from the end of its header on, and no earlier.
 #[test]
 fn a_rest_is_kept(rt: HostRuntime) {
-    let alloc = rt.alloc();
-    for (end, rest) in [(33, b"".as_slice()), (34, b"\xAA"), (35, b"\xAA\xBB")] {
-        assert!(rt; end <= OTHER_REQUEST_BODY.len());
-        assert!(rt; keeps(alloc, &OTHER_REQUEST_BODY[..end], rest), "{end}");
+    for (end, rest) in RESTS {
+        assert!(rt; keeps_beginning(rt.alloc(), end, rest), "{end}");
     }
-    assert!(rt; keeps_more(alloc));
-    assert!(rt; has_no_shorter::<Request>(alloc, &OTHER_REQUEST_BODY[..33]));
+    assert!(rt; keeps_more(rt.alloc()));
+    assert!(rt; has_no_shorter::<Request>(rt.alloc(), &OTHER_REQUEST_BODY[..33]));
 }
 
 /// Whether the id is read in front of a header, and written as the other one.
@@ -168,19 +212,27 @@ fn ids_of_every_form_are_read(rt: HostRuntime) {
     }
 }
 
-fn copy_is_body(alloc: Global, request: &Request, body: &[u8]) -> bool {
-    match request.copy() {
+fn copy_is_body<B: Session>(alloc: Global, request: &B, body: &[u8]) -> bool {
+    match request.copied() {
         Ok(copy) => is_body_of(alloc, &copy, body),
         Err(_) => false,
     }
 }
 
-fn has_a_copy(alloc: Global, body: &[u8]) -> bool {
+fn has_a_copy<B: Session>(alloc: Global, body: &[u8]) -> bool {
     if body.len() > 1000 {
         return false;
     }
-    match read_request(alloc, body) {
+    match B::read_body(alloc, body) {
         Ok(request) => is_body_of(alloc, &request, body) && copy_is_body(alloc, &request, body),
+        Err(_) => false,
+    }
+}
+
+/// A request with a rest of a hundred bytes more.
+fn long_has_a_copy(alloc: Global) -> bool {
+    match joined(alloc, OTHER_REQUEST_BODY, &[0xCC; 100]) {
+        Ok(body) => has_a_copy::<Request>(alloc, body.as_slice()),
         Err(_) => false,
     }
 }
@@ -192,6 +244,7 @@ fn copies_are_equal(rt: HostRuntime) {
         ENDPOINTS_REQUEST_BODY,
         OTHER_REQUEST_BODY,
     ] {
-        assert!(rt; has_a_copy(rt.alloc(), body), "{body:?}");
+        assert!(rt; has_a_copy::<Request>(rt.alloc(), body), "{body:?}");
     }
+    assert!(rt; long_has_a_copy(rt.alloc()));
 }

@@ -71,6 +71,28 @@ pub(crate) fn is_refused<T: Wire>(alloc: Global, bytes: &[u8]) -> bool {
     bytes.len() <= 1000 && matches!(T::read(alloc, bytes), Err(ReadFault::Refused))
 }
 
+/// Whether none of the bytes begin with a value.
+pub(crate) fn are_refused<T: Wire>(alloc: Global, rows: &[&[u8]]) -> bool {
+    let mut all = true;
+    for bytes in rows {
+        if !is_refused::<T>(alloc, bytes) {
+            all = false;
+        }
+    }
+    all
+}
+
+/// Whether each of the bytes spell a value for which the others are written.
+pub(crate) fn are_spelled<T: Wire>(alloc: Global, rows: &[(&[u8], &[u8])]) -> bool {
+    let mut all = true;
+    for (bytes, canon) in rows {
+        if !spells::<T, Any>(alloc, bytes, bytes.len(), canon, &Any) {
+            all = false;
+        }
+    }
+    all
+}
+
 /// Whether the bytes are written for the value and for a copy of it.
 pub(crate) fn are_written<T: Wire>(alloc: Global, value: &T, canon: &[u8]) -> bool {
     is_written(alloc, value, canon) && is_copied(alloc, value, canon)

@@ -40,11 +40,19 @@ impl Shown<UaBytes> for Content<'_> {
     }
 }
 
-const TEXTS: [(&[u8], Option<&str>); 4] = [
+/// A hundred letters.
+const LONG: &[u8] =
+    b"\x64\0\0\0abcdefghijabcdefghijabcdefghijabcdefghijabcdefghijabcdefghijabcdefghijabcdefghijabcdefghijabcdefghij";
+
+const LONG_TEXT: &str =
+    "abcdefghijabcdefghijabcdefghijabcdefghijabcdefghijabcdefghijabcdefghijabcdefghijabcdefghijabcdefghij";
+
+const TEXTS: [(&[u8], Option<&str>); 5] = [
     (NULL, None),
     (EMPTY, Some("")),
     (LETTER, Some("A")),
     (WATER, Some("水")),
+    (LONG, Some(LONG_TEXT)),
 ];
 
 /// Both kinds of text are spelled alike.
@@ -53,16 +61,25 @@ fn is_text_of(alloc: Global, bytes: &[u8], text: Option<&str>) -> bool {
         && is_whole::<XmlElement, Text>(alloc, bytes, &Text(text))
 }
 
+/// Not whole letters, and a letter with something behind it.
+fn are_cut_and_followed(alloc: Global) -> bool {
+    is_refused::<UaString>(alloc, CUT_WATER)
+        && is_refused::<XmlElement>(alloc, CUT_WATER)
+        && spells::<UaString, Any>(
+            alloc,
+            &[0x01, 0x00, 0x00, 0x00, 0x41, 0xff],
+            5,
+            LETTER,
+            &Any,
+        )
+}
+
 #[test]
 fn strings_and_xml_elements_are_null_or_empty_or_utf8(rt: HostRuntime) {
-    let alloc = rt.alloc();
     for (bytes, text) in TEXTS {
-        assert!(rt; is_text_of(alloc, bytes, text), "{bytes:?}");
+        assert!(rt; is_text_of(rt.alloc(), bytes, text), "{bytes:?}");
     }
-    assert!(rt; is_refused::<UaString>(alloc, CUT_WATER));
-    assert!(rt; is_refused::<XmlElement>(alloc, CUT_WATER));
-    let followed: &[u8] = &[0x01, 0x00, 0x00, 0x00, 0x41, 0xff];
-    assert!(rt; spells::<UaString, Any>(alloc, followed, 5, LETTER, &Any));
+    assert!(rt; are_cut_and_followed(rt.alloc()));
 }
 
 const CONTENTS: [(&[u8], Option<&[u8]>); 4] = [

@@ -1,14 +1,8 @@
 //! Extension objects, diagnostics, Variants and DataValues: bytes and what they spell.
 
-use crate::spelling::{Any, Shown, is_refused, is_whole, spells};
-use std::alloc::Global;
-use ua_value::{DateTime, StatusCode, Wire};
+use crate::spelling::{Shown, are_refused, are_spelled, is_whole};
+use ua_value::{DateTime, StatusCode};
 use ua_variant::{DataValue, DiagnosticInfo, ExtensionObject, Kind, Variant};
-
-/// Whether the bytes spell a value for which the others are written.
-fn is_written_as<T: Wire>(alloc: Global, bytes: &[u8], canon: &[u8]) -> bool {
-    spells::<T, Any>(alloc, bytes, bytes.len(), canon, &Any)
-}
 
 const EXTENSIONS: [(&[u8], &[u8]); 5] = [
     (&[0, 0, 0], &[0, 0, 0]),
@@ -31,18 +25,8 @@ const NO_EXTENSIONS: [&[u8]; 3] = [&[0, 0x48, 2, 1, 0, 0, 0, 0xff], &[0, 0x48, 3
 
 #[test]
 fn extension_objects_keep_their_body(rt: HostRuntime) {
-    for bytes in NO_EXTENSIONS {
-        assert!(rt;
-            is_refused::<ExtensionObject>(rt.alloc(), bytes),
-            "{bytes:?}"
-        );
-    }
-    for (bytes, canon) in EXTENSIONS {
-        assert!(rt;
-            is_written_as::<ExtensionObject>(rt.alloc(), bytes, canon),
-            "{bytes:?}"
-        );
-    }
+    assert!(rt; are_refused::<ExtensionObject>(rt.alloc(), &NO_EXTENSIONS));
+    assert!(rt; are_spelled::<ExtensionObject>(rt.alloc(), &EXTENSIONS));
 }
 
 /// Each part, and an inner one of no part.
@@ -61,6 +45,8 @@ const SOME_DIAGNOSTICS: [(&[u8], &[u8]); 5] = [
     ),
     (&[0x20, 0, 0, 0, 0], &[0x20, 0, 0, 0, 0]),
 ];
+
+const NO_DIAGNOSTICS: [&[u8]; 2] = [&[0x80], &[0x40, 0x80]];
 
 struct EachPart;
 
@@ -81,16 +67,8 @@ impl Shown<DiagnosticInfo> for EachPart {
 #[test]
 fn diagnostics_keep_what_is_flagged(rt: HostRuntime) {
     let alloc = rt.alloc();
-    let refused: [&[u8]; 2] = [&[0x80], &[0x40, 0x80]];
-    for bytes in refused {
-        assert!(rt; is_refused::<DiagnosticInfo>(alloc, bytes), "{bytes:?}");
-    }
-    for (bytes, canon) in SOME_DIAGNOSTICS {
-        assert!(rt;
-            is_written_as::<DiagnosticInfo>(alloc, bytes, canon),
-            "{bytes:?}"
-        );
-    }
+    assert!(rt; are_refused::<DiagnosticInfo>(alloc, &NO_DIAGNOSTICS));
+    assert!(rt; are_spelled::<DiagnosticInfo>(alloc, &SOME_DIAGNOSTICS));
     assert!(rt; is_whole::<DiagnosticInfo, EachPart>(alloc, &DIAGNOSTICS, &EachPart));
 }
 
@@ -183,15 +161,8 @@ const NO_VARIANTS: [&[u8]; 8] = [
 
 #[test]
 fn variants_of_other_types_are_byte_strings_or_refused(rt: HostRuntime) {
-    for bytes in NO_VARIANTS {
-        assert!(rt; is_refused::<Variant>(rt.alloc(), bytes), "{bytes:?}");
-    }
-    for (bytes, canon) in OTHER_VARIANTS {
-        assert!(rt;
-            is_written_as::<Variant>(rt.alloc(), bytes, canon),
-            "{bytes:?}"
-        );
-    }
+    assert!(rt; are_refused::<Variant>(rt.alloc(), &NO_VARIANTS));
+    assert!(rt; are_spelled::<Variant>(rt.alloc(), &OTHER_VARIANTS));
 }
 
 /// Arrays as they are written, with the number of their elements, if they are not null, and their dimensions.
@@ -260,9 +231,7 @@ impl Shown<Variant> for Shape<'_> {
 
 #[test]
 fn arrays_have_dimensions_that_fit(rt: HostRuntime) {
-    for bytes in NO_ARRAYS {
-        assert!(rt; is_refused::<Variant>(rt.alloc(), bytes), "{bytes:?}");
-    }
+    assert!(rt; are_refused::<Variant>(rt.alloc(), &NO_ARRAYS));
     for (bytes, count, lengths) in ARRAYS {
         let want = Shape(count, lengths);
         assert!(rt;
@@ -290,6 +259,11 @@ const SOME_DATA: [(&[u8], &[u8]); 6] = [
     (&[0x10, 0x10, 0x27], &[0x10, 0x0f, 0x27]),
     (&[0x20, 0x0f, 0x27], &[0x20, 0x0f, 0x27]),
 ];
+
+const NO_DATA: [&[u8]; 3] = [&[0x40], &[0x80], &[0x01, 0x18, 0]];
+
+/// A Variant with an array of DataValues, each with a Variant in it.
+const NESTED_DATA: [u8; 8] = [0x01, 0x97, 1, 0, 0, 0, 0x01, 0];
 
 impl Shown<DataValue> for EachPart {
     fn is_shown(&self, data: &DataValue) -> bool {
@@ -324,17 +298,8 @@ impl Shown<DiagnosticInfo> for Depth {
 #[test]
 fn data_values_keep_what_is_flagged(rt: HostRuntime) {
     let alloc = rt.alloc();
-    let refused: [&[u8]; 3] = [&[0x40], &[0x80], &[0x01, 0x18, 0]];
-    for bytes in refused {
-        assert!(rt; is_refused::<DataValue>(alloc, bytes), "{bytes:?}");
-    }
-    for (bytes, canon) in SOME_DATA {
-        assert!(rt;
-            is_written_as::<DataValue>(alloc, bytes, canon),
-            "{bytes:?}"
-        );
-    }
-    let nested: &[u8] = &[0x01, 0x97, 1, 0, 0, 0, 0x01, 0];
-    assert!(rt; is_whole::<DataValue, Depth>(alloc, nested, &Depth(4)));
+    assert!(rt; are_refused::<DataValue>(alloc, &NO_DATA));
+    assert!(rt; are_spelled::<DataValue>(alloc, &SOME_DATA));
+    assert!(rt; is_whole::<DataValue, Depth>(alloc, &NESTED_DATA, &Depth(4)));
     assert!(rt; is_whole::<DataValue, EachPart>(alloc, &DATA, &EachPart));
 }
