@@ -21,6 +21,3 @@ pub use hello::Hello;
 pub use kind::Kind;
 pub use limits::Limits;
 pub use negotiation::negotiate;
-
-#[cfg(test)]
-mod tests;

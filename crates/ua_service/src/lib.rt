@@ -12,8 +12,6 @@ mod other;
 mod read;
 mod request;
 mod response;
-#[cfg(test)]
-mod tests;
 
 pub use application::ApplicationDescription;
 pub use body::{Body, body_of};

@@ -44,8 +44,6 @@ mod names;
 mod node;
 mod number;
 mod status;
-#[cfg(test)]
-mod tests;
 mod text;
 mod wire;
 mod xml;

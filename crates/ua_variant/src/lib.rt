@@ -17,8 +17,6 @@ mod picoseconds;
 mod reading;
 mod shape;
 mod stamps;
-#[cfg(test)]
-mod tests;
 mod variant;
 mod wire;
 mod writing;

@@ -1,15 +1,14 @@
 //! Structures with another value in each field.
 
-use super::{are_texts, is_bytes, is_text, joined, reads};
-use crate::{
+use crate::spelling::{Any, Shown, are_texts, is_bytes, is_text, is_whole, joined};
+use crate::vectors;
+use std::alloc::{AllocError, Global};
+use ua_service::{
     ApplicationDescription, CloseRequest, EndpointDescription, FindServersRequest,
     FindServersResponse, GetEndpointsRequest, GetEndpointsResponse, OpenRequest, OpenResponse,
     RequestHeader, ResponseHeader, ServiceFault, UserTokenPolicy, response_header,
 };
-use std::alloc::Global;
-use std::process::Abort;
-use std::test::Fail;
-use ua_value::{Identifier, NoMemory, Wire};
+use ua_value::{Identifier, Wire};
 use ua_variant::ExtensionBody;
 
 const REQUEST_HEADER: &[u8] =
@@ -39,17 +38,21 @@ trait Sample {
     fn is_sample(&self) -> bool;
 }
 
-/// The fields behind the front spell the sample.
-fn spells_the_sample<T: Wire + Sample>(
-    rt: &impl Abort,
-    alloc: Global,
-    front: &[u8],
-    fields: &[u8],
-) -> Result<(), Fail> {
-    let bytes = joined(alloc, front, fields)?;
-    let value = reads::<T>(rt, alloc, &bytes)?;
-    assert!(rt; value.is_sample());
-    Ok(())
+/// That it is the sample.
+struct IsSample;
+
+impl<T: Sample> Shown<T> for IsSample {
+    fn is_shown(&self, value: &T) -> bool {
+        value.is_sample()
+    }
+}
+
+/// Whether the fields behind the front spell the sample.
+fn is_sample_of<T: Wire + Sample>(alloc: Global, front: &[u8], fields: &[u8]) -> bool {
+    match joined(alloc, front, fields) {
+        Ok(bytes) => is_whole::<T, IsSample>(alloc, bytes.as_slice(), &IsSample),
+        Err(_) => false,
+    }
 }
 
 impl Sample for RequestHeader {
@@ -184,52 +187,72 @@ impl Sample for ServiceFault {
 }
 
 #[test]
-fn fields_of_headers(rt: HostRuntime) -> Result<(), Fail> {
+fn fields_of_headers(rt: HostRuntime) {
     let alloc = rt.alloc();
-    spells_the_sample::<RequestHeader>(&rt, alloc, REQUEST_HEADER, b"")?;
-    spells_the_sample::<CloseRequest>(&rt, alloc, REQUEST_HEADER, b"")?;
-    spells_the_sample::<ResponseHeader>(&rt, alloc, RESPONSE_HEADER, b"")?;
-    spells_the_sample::<ServiceFault>(&rt, alloc, RESPONSE_HEADER, b"")
+    assert!(rt; is_whole::<RequestHeader, Any>(alloc, vectors::REQUEST_HEADER, &Any));
+    assert!(rt; is_sample_of::<RequestHeader>(alloc, REQUEST_HEADER, b""));
+    assert!(rt; is_sample_of::<CloseRequest>(alloc, REQUEST_HEADER, b""));
+    assert!(rt; is_sample_of::<ResponseHeader>(alloc, RESPONSE_HEADER, b""));
+    assert!(rt; is_sample_of::<ServiceFault>(alloc, RESPONSE_HEADER, b""));
 }
 
 #[test]
-fn fields_of_open_messages(rt: HostRuntime) -> Result<(), Fail> {
+fn fields_of_open_messages(rt: HostRuntime) {
     let alloc = rt.alloc();
-    spells_the_sample::<OpenRequest>(&rt, alloc, REQUEST_HEADER, OPEN_FIELDS)?;
-    spells_the_sample::<OpenResponse>(&rt, alloc, RESPONSE_HEADER, OPENED_FIELDS)
+    assert!(rt; is_sample_of::<OpenRequest>(alloc, REQUEST_HEADER, OPEN_FIELDS));
+    assert!(rt; is_sample_of::<OpenResponse>(alloc, RESPONSE_HEADER, OPENED_FIELDS));
 }
 
 #[test]
-fn fields_of_endpoints(rt: HostRuntime) -> Result<(), Fail> {
+fn fields_of_endpoints(rt: HostRuntime) {
     let alloc = rt.alloc();
-    spells_the_sample::<UserTokenPolicy>(&rt, alloc, POLICY, b"")?;
-    spells_the_sample::<ApplicationDescription>(&rt, alloc, APPLICATION, b"")?;
-    spells_the_sample::<EndpointDescription>(&rt, alloc, ENDPOINT, b"")
+    assert!(rt; is_sample_of::<UserTokenPolicy>(alloc, POLICY, b""));
+    assert!(rt; is_sample_of::<ApplicationDescription>(alloc, APPLICATION, b""));
+    assert!(rt; is_sample_of::<EndpointDescription>(alloc, ENDPOINT, b""));
 }
 
-#[test]
-fn fields_of_discovery(rt: HostRuntime) -> Result<(), Fail> {
-    let alloc = rt.alloc();
-    spells_the_sample::<FindServersRequest>(&rt, alloc, REQUEST_HEADER, QUESTION_FIELDS)?;
-    spells_the_sample::<GetEndpointsRequest>(&rt, alloc, REQUEST_HEADER, QUESTION_FIELDS)?;
-    let two = joined(alloc, APPLICATION, APPLICATION)?;
-    let two = joined(alloc, b"\x02\0\0\0", &two)?;
-    spells_the_sample::<FindServersResponse>(&rt, alloc, RESPONSE_HEADER, &two)?;
-    let one = joined(alloc, b"\x01\0\0\0", ENDPOINT)?;
-    spells_the_sample::<GetEndpointsResponse>(&rt, alloc, RESPONSE_HEADER, &one)
-}
-
-fn header_bytes(alloc: Global, now: i64, handle: u32, status: u32) -> Result<Vec<u8>, NoMemory> {
-    let header = response_header(alloc, now, handle, status);
-    let mut bytes = Vec::new(alloc);
-    header.write(&mut bytes)?;
+/// Two applications in an array.
+fn two_applications(alloc: Global) -> Result<Vec<u8>, AllocError> {
+    let mut bytes = b"\x02\0\0\0".to_vec(alloc)?;
+    bytes.extend_from_slice(APPLICATION)?;
+    bytes.extend_from_slice(APPLICATION)?;
     Ok(bytes)
 }
 
+fn are_servers(alloc: Global) -> bool {
+    match two_applications(alloc) {
+        Ok(two) => is_sample_of::<FindServersResponse>(alloc, RESPONSE_HEADER, two.as_slice()),
+        Err(_) => false,
+    }
+}
+
+fn are_endpoints(alloc: Global) -> bool {
+    match joined(alloc, b"\x01\0\0\0", ENDPOINT) {
+        Ok(one) => is_sample_of::<GetEndpointsResponse>(alloc, RESPONSE_HEADER, one.as_slice()),
+        Err(_) => false,
+    }
+}
+
 #[test]
-fn headers_have_moment_handle_and_status(rt: HostRuntime) -> Result<(), Fail> {
-    let bytes = header_bytes(rt.alloc(), 1, 0x0203_0405, 0x800B_0000)?;
-    let wanted = b"\x01\0\0\0\0\0\0\0\x05\x04\x03\x02\0\0\x0B\x80\0\xFF\xFF\xFF\xFF\0\0\0";
-    assert_eq!(&rt; bytes.as_slice(), wanted.as_slice());
-    Ok(())
+fn fields_of_discovery(rt: HostRuntime) {
+    let alloc = rt.alloc();
+    assert!(rt; is_sample_of::<FindServersRequest>(alloc, REQUEST_HEADER, QUESTION_FIELDS));
+    assert!(rt; is_sample_of::<GetEndpointsRequest>(alloc, REQUEST_HEADER, QUESTION_FIELDS));
+    assert!(rt; are_servers(alloc));
+    assert!(rt; are_endpoints(alloc));
+}
+
+const GIVEN_HEADER: &[u8] =
+    b"\x01\0\0\0\0\0\0\0\x05\x04\x03\x02\0\0\x0B\x80\0\xFF\xFF\xFF\xFF\0\0\0";
+
+fn header_is_written(alloc: Global, header: ResponseHeader) -> bool {
+    let mut bytes = Vec::new(alloc);
+    header.write(&mut bytes).is_ok() && bytes.as_slice() == GIVEN_HEADER
+}
+
+#[test]
+fn headers_have_moment_handle_and_status(rt: HostRuntime) {
+    let alloc = rt.alloc();
+    let header = response_header(alloc, 1, 0x0203_0405, 0x800B_0000);
+    assert!(rt; header_is_written(alloc, header));
 }

@@ -1,26 +1,8 @@
-//! Bytes and what they spell.
+//! Extension objects, diagnostics, Variants and DataValues: bytes and what they spell.
 
-use super::{Depth, Shown, reads, refuses, spells};
-use crate::{DataValue, DiagnosticInfo, ExtensionObject, Kind, Variant};
-use std::alloc::Global;
-use std::process::Abort;
-use std::test::Fail;
-use ua_value::{DateTime, StatusCode, Wire};
-
-/// Each of the bytes spell a value for which the others are written.
-fn read_rows<T: Wire>(rt: &impl Abort, alloc: Global, rows: &[(&[u8], &[u8])]) -> Result<(), Fail> {
-    for (bytes, canon) in rows {
-        reads::<T>(rt, alloc, bytes, bytes.len(), canon)?;
-    }
-    Ok(())
-}
-
-/// None of the bytes begin with a value.
-fn refused_rows<T: Wire>(rt: &impl Abort, alloc: Global, rows: &[&[u8]]) {
-    for bytes in rows {
-        refuses::<T>(rt, alloc, bytes);
-    }
-}
+use crate::spelling::{Shown, are_refused, are_spelled, is_whole};
+use ua_value::{DateTime, StatusCode};
+use ua_variant::{DataValue, DiagnosticInfo, ExtensionObject, Kind, Variant};
 
 const EXTENSIONS: [(&[u8], &[u8]); 5] = [
     (&[0, 0, 0], &[0, 0, 0]),
@@ -42,14 +24,13 @@ const EXTENSIONS: [(&[u8], &[u8]); 5] = [
 const NO_EXTENSIONS: [&[u8]; 3] = [&[0, 0x48, 2, 1, 0, 0, 0, 0xff], &[0, 0x48, 3], &[6, 0, 0]];
 
 #[test]
-fn extension_objects_keep_their_body(rt: HostRuntime) -> Result<(), Fail> {
-    let alloc = rt.alloc();
-    refused_rows::<ExtensionObject>(&rt, alloc, &NO_EXTENSIONS);
-    read_rows::<ExtensionObject>(&rt, alloc, &EXTENSIONS)
+fn extension_objects_keep_their_body(rt: HostRuntime) {
+    assert!(rt; are_refused::<ExtensionObject>(rt.alloc(), &NO_EXTENSIONS));
+    assert!(rt; are_spelled::<ExtensionObject>(rt.alloc(), &EXTENSIONS));
 }
 
 /// Each part, and an inner one of no part.
-pub(super) const DIAGNOSTICS: [u8; 28] = [
+pub(crate) const DIAGNOSTICS: [u8; 28] = [
     0x7f, 1, 0, 0, 0, 2, 0, 0, 0, 3, 0, 0, 0, 4, 0, 0, 0, 2, 0, 0, 0, b'h', b'i', 0, 0, 0x0b, 0x80,
     0,
 ];
@@ -64,6 +45,8 @@ const SOME_DIAGNOSTICS: [(&[u8], &[u8]); 5] = [
     ),
     (&[0x20, 0, 0, 0, 0], &[0x20, 0, 0, 0, 0]),
 ];
+
+const NO_DIAGNOSTICS: [&[u8]; 2] = [&[0x80], &[0x40, 0x80]];
 
 struct EachPart;
 
@@ -82,11 +65,11 @@ impl Shown<DiagnosticInfo> for EachPart {
 }
 
 #[test]
-fn diagnostics_keep_what_is_flagged(rt: HostRuntime) -> Result<(), Fail> {
+fn diagnostics_keep_what_is_flagged(rt: HostRuntime) {
     let alloc = rt.alloc();
-    refused_rows::<DiagnosticInfo>(&rt, alloc, &[&[0x80], &[0x40, 0x80]]);
-    read_rows::<DiagnosticInfo>(&rt, alloc, &SOME_DIAGNOSTICS)?;
-    spells::<DiagnosticInfo, EachPart>(&rt, alloc, &DIAGNOSTICS, &EachPart)
+    assert!(rt; are_refused::<DiagnosticInfo>(alloc, &NO_DIAGNOSTICS));
+    assert!(rt; are_spelled::<DiagnosticInfo>(alloc, &SOME_DIAGNOSTICS));
+    assert!(rt; is_whole::<DiagnosticInfo, EachPart>(alloc, &DIAGNOSTICS, &EachPart));
 }
 
 /// A single value of each kind, as it is written.
@@ -120,7 +103,7 @@ const SINGLES: [(Kind, &[u8]); 24] = [
     (Kind::DiagnosticInfo, &[0x19, 0x40, 0]),
 ];
 
-#[derive(Drop)]
+#[derive(Clone, Copy)]
 struct Single(Kind);
 
 impl Shown<Variant> for Single {
@@ -133,11 +116,13 @@ impl Shown<Variant> for Single {
 }
 
 #[test]
-fn variants_have_a_value_of_each_kind(rt: HostRuntime) -> Result<(), Fail> {
+fn variants_have_a_value_of_each_kind(rt: HostRuntime) {
     for (kind, bytes) in SINGLES {
-        spells::<Variant, Single>(&rt, rt.alloc(), bytes, &Single(kind))?;
+        assert!(rt;
+            is_whole::<Variant, Single>(rt.alloc(), bytes, &Single(kind)),
+            "{bytes:?}"
+        );
     }
-    Ok(())
 }
 
 /// What else is read, and what is written for it: byte strings under another type, and any true.
@@ -175,10 +160,9 @@ const NO_VARIANTS: [&[u8]; 8] = [
 ];
 
 #[test]
-fn variants_of_other_types_are_byte_strings_or_refused(rt: HostRuntime) -> Result<(), Fail> {
-    let alloc = rt.alloc();
-    refused_rows::<Variant>(&rt, alloc, &NO_VARIANTS);
-    read_rows::<Variant>(&rt, alloc, &OTHER_VARIANTS)
+fn variants_of_other_types_are_byte_strings_or_refused(rt: HostRuntime) {
+    assert!(rt; are_refused::<Variant>(rt.alloc(), &NO_VARIANTS));
+    assert!(rt; are_spelled::<Variant>(rt.alloc(), &OTHER_VARIANTS));
 }
 
 /// Arrays as they are written, with the number of their elements, if they are not null, and their dimensions.
@@ -233,32 +217,32 @@ const NO_ARRAYS: [&[u8]; 9] = [
     &[0x83, 0xfe, 0xff, 0xff, 0xff, 1, 1, 1],
 ];
 
-#[derive(Drop)]
-struct Shape<'a> {
-    count: Option<usize>,
-    lengths: Option<&'a [i32]>,
-}
+/// The number of elements, if they are not null, and the dimensions.
+#[derive(Clone, Copy)]
+struct Shape<'a>(Option<usize>, Option<&'a [i32]>);
 
 impl Shown<Variant> for Shape<'_> {
     fn is_shown(&self, value: &Variant) -> bool {
         value.is_array()
-            && value.elements().map(|elements| elements.len()) == self.count
-            && value.dimensions() == self.lengths
+            && value.elements().map(|elements| elements.len()) == self.0
+            && value.dimensions() == self.1
     }
 }
 
 #[test]
-fn arrays_have_dimensions_that_fit(rt: HostRuntime) -> Result<(), Fail> {
-    let alloc = rt.alloc();
-    refused_rows::<Variant>(&rt, alloc, &NO_ARRAYS);
+fn arrays_have_dimensions_that_fit(rt: HostRuntime) {
+    assert!(rt; are_refused::<Variant>(rt.alloc(), &NO_ARRAYS));
     for (bytes, count, lengths) in ARRAYS {
-        spells::<Variant, Shape>(&rt, alloc, bytes, &Shape { count, lengths })?;
+        let want = Shape(count, lengths);
+        assert!(rt;
+            is_whole::<Variant, Shape>(rt.alloc(), bytes, &want),
+            "{bytes:?}"
+        );
     }
-    Ok(())
 }
 
 /// Each part: the value, the status, the moment at the source and its picoseconds, those at the server.
-pub(super) const DATA: [u8; 30] = [
+pub(crate) const DATA: [u8; 30] = [
     0x3f, 0x06, 1, 0, 0, 0, 0, 0, 0x0b, 0x80, 2, 0, 0, 0, 0, 0, 0, 0, 3, 0, 4, 0, 0, 0, 0, 0, 0, 0,
     5, 0,
 ];
@@ -276,6 +260,11 @@ const SOME_DATA: [(&[u8], &[u8]); 6] = [
     (&[0x20, 0x0f, 0x27], &[0x20, 0x0f, 0x27]),
 ];
 
+const NO_DATA: [&[u8]; 3] = [&[0x40], &[0x80], &[0x01, 0x18, 0]];
+
+/// A Variant with an array of DataValues, each with a Variant in it.
+const NESTED_DATA: [u8; 8] = [0x01, 0x97, 1, 0, 0, 0, 0x01, 0];
+
 impl Shown<DataValue> for EachPart {
     fn is_shown(&self, data: &DataValue) -> bool {
         data.depth() == 2
@@ -290,12 +279,27 @@ impl Shown<DataValue> for EachPart {
     }
 }
 
+/// A depth.
+#[derive(Clone, Copy)]
+pub(crate) struct Depth(pub(crate) u8);
+
+impl Shown<DataValue> for Depth {
+    fn is_shown(&self, value: &DataValue) -> bool {
+        value.depth() == self.0
+    }
+}
+
+impl Shown<DiagnosticInfo> for Depth {
+    fn is_shown(&self, value: &DiagnosticInfo) -> bool {
+        value.depth() == self.0
+    }
+}
+
 #[test]
-fn data_values_keep_what_is_flagged(rt: HostRuntime) -> Result<(), Fail> {
+fn data_values_keep_what_is_flagged(rt: HostRuntime) {
     let alloc = rt.alloc();
-    refused_rows::<DataValue>(&rt, alloc, &[&[0x40], &[0x80], &[0x01, 0x18, 0]]);
-    read_rows::<DataValue>(&rt, alloc, &SOME_DATA)?;
-    let nested: &[u8] = &[0x01, 0x97, 1, 0, 0, 0, 0x01, 0];
-    spells::<DataValue, Depth>(&rt, alloc, nested, &Depth(4))?;
-    spells::<DataValue, EachPart>(&rt, alloc, &DATA, &EachPart)
+    assert!(rt; are_refused::<DataValue>(alloc, &NO_DATA));
+    assert!(rt; are_spelled::<DataValue>(alloc, &SOME_DATA));
+    assert!(rt; is_whole::<DataValue, Depth>(alloc, &NESTED_DATA, &Depth(4)));
+    assert!(rt; is_whole::<DataValue, EachPart>(alloc, &DATA, &EachPart));
 }

@@ -1,0 +1,38 @@
+//! Tests of the libraries of values, of service bodies and of frames, by their public calls alone.
+//!
+//! Proofs cover what the contracts say; here stands what no clause says: that the formats are those of the standard's examples, that calls succeed
+//! where memory is there, and that each growth may be refused.
+#![tactic(auto)]
+
+#[cfg(test)]
+mod arrays;
+#[cfg(test)]
+mod bodies;
+#[cfg(test)]
+mod depth;
+#[cfg(test)]
+mod fields;
+#[cfg(test)]
+mod frames;
+#[cfg(test)]
+mod making;
+#[cfg(test)]
+mod memory;
+#[cfg(test)]
+mod names;
+#[cfg(test)]
+mod nodes;
+#[cfg(test)]
+mod numbers;
+#[cfg(test)]
+mod parts;
+#[cfg(test)]
+mod requests;
+#[cfg(test)]
+mod spelling;
+#[cfg(test)]
+mod texts;
+#[cfg(test)]
+mod variants;
+#[cfg(test)]
+mod vectors;

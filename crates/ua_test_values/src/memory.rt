@@ -1,0 +1,352 @@
+//! Each call that grows gives its full answer, or says that memory ran out and leaves what stood before. These tests are run with each growth
+//! refused in turn (tools/refuse-growths).
+
+use crate::frames::{AGREED, ERROR, TOLD, error_of, hello_of};
+use crate::making::{around, data_of};
+use crate::requests::{Header, Session, request_of};
+use crate::spelling::{Shown, is_behind, is_text};
+use crate::variants::{DATA, DIAGNOSTICS, Depth};
+use crate::vectors::{
+    ACKNOWLEDGE, CLOSE_REQUEST_BODY, ENDPOINTS_REQUEST_BODY, ENDPOINTS_RESPONSE_BODY,
+    FAULT_RESPONSE_BODY, FIND_REQUEST_BODY, FIND_RESPONSE_BODY, HELLO, OPEN_REQUEST_BODY,
+    OPEN_RESPONSE_BODY, OTHER_REQUEST_BODY,
+};
+use std::alloc::{AllocError, Global};
+use ua_frame::ErrorFrame;
+use ua_frame::status::BAD_TCP_MESSAGE_TYPE_INVALID;
+use ua_service::{
+    Body, CloseRequest, EndpointDescription, OpenRequest, OpenResponse, Request, RequestHeader,
+    Response,
+};
+use ua_value::{
+    Array, ExpandedNodeId, Guid, LocalizedText, NodeId, QualifiedName, ReadFault, UaBytes,
+    UaString, ValueFault, Wire, XmlElement,
+};
+use ua_variant::{DataValue, DiagnosticInfo, ExtensionObject, Variant, VariantFault};
+
+/// Whether what was written stands behind the byte before, all of it, or nothing where memory ran out.
+fn is_all_or_nothing(wrote: Result<(), AllocError>, out: &[u8], bytes: &[u8]) -> bool {
+    match wrote {
+        Ok(()) => is_behind(out, bytes),
+        Err(_) => is_behind(out, &[]),
+    }
+}
+
+/// Whether reading, copying and writing the value that the bytes spell goes all the way, or ends for want of memory, where the bytes are its
+/// canonical spelling. A vector that this test cannot make leaves nothing to see.
+fn is_full_or_no_memory<T: Wire>(alloc: Global, bytes: &[u8]) -> bool {
+    if bytes.len() > 1000 {
+        return false;
+    }
+    match T::read(alloc, bytes) {
+        Ok((value, used)) => {
+            used == bytes.len()
+                && is_written_or_no_memory(alloc, &value, bytes)
+                && is_copied_or_no_memory(alloc, &value, bytes)
+        }
+        Err(fault) => fault == ReadFault::NoMemory,
+    }
+}
+
+fn is_written_or_no_memory<T: Wire>(alloc: Global, value: &T, canon: &[u8]) -> bool {
+    let Ok(mut out) = [7].to_vec(alloc) else {
+        return true;
+    };
+    let wrote = value.write(&mut out);
+    is_all_or_nothing(wrote, out.as_slice(), canon)
+}
+
+fn is_copied_or_no_memory<T: Wire>(alloc: Global, value: &T, canon: &[u8]) -> bool {
+    match value.copy() {
+        Ok(copy) => is_written_or_no_memory(alloc, &copy, canon),
+        Err(_) => true,
+    }
+}
+
+#[test]
+fn texts_and_bytes_or_no_memory(rt: HostRuntime) {
+    let bytes: &[u8] = &[3, 0, 0, 0, 0x61, 0x62, 0x63];
+    assert!(rt; is_full_or_no_memory::<UaString>(rt.alloc(), bytes));
+    assert!(rt; is_full_or_no_memory::<XmlElement>(rt.alloc(), bytes));
+    assert!(rt; is_full_or_no_memory::<UaBytes>(rt.alloc(), bytes));
+}
+
+const GUID: &[u8] = &[1, 2, 3, 4, 5, 6, 7, 8, 9, 10, 11, 12, 13, 14, 15, 16];
+
+#[test]
+fn plain_values_or_no_memory(rt: HostRuntime) {
+    let alloc = rt.alloc();
+    assert!(rt; is_full_or_no_memory::<bool>(alloc, &[1]));
+    assert!(rt; is_full_or_no_memory::<u64>(alloc, &[1, 2, 3, 4, 5, 6, 7, 8]));
+    assert!(rt; is_full_or_no_memory::<Guid>(alloc, GUID));
+}
+
+const NODE_IDS: [&[u8]; 4] = [
+    &[0, 72],
+    &[3, 1, 0, 1, 0, 0, 0, 0x61],
+    &[
+        4, 1, 0, 1, 2, 3, 4, 5, 6, 7, 8, 9, 10, 11, 12, 13, 14, 15, 16,
+    ],
+    &[5, 1, 0, 1, 0, 0, 0, 0xff],
+];
+
+const EXPANDED: &[u8] = &[0xc3, 1, 0, 1, 0, 0, 0, 0x61, 1, 0, 0, 0, 0x62, 2, 0, 0, 0];
+
+#[test]
+fn node_ids_or_no_memory(rt: HostRuntime) {
+    for bytes in NODE_IDS {
+        assert!(rt;
+            is_full_or_no_memory::<NodeId>(rt.alloc(), bytes),
+            "{bytes:?}"
+        );
+    }
+    assert!(rt; is_full_or_no_memory::<ExpandedNodeId>(rt.alloc(), EXPANDED));
+}
+
+#[test]
+fn names_or_no_memory(rt: HostRuntime) {
+    let alloc = rt.alloc();
+    let localized: &[u8] = &[3, 1, 0, 0, 0, 0x61, 1, 0, 0, 0, 0x62];
+    assert!(rt; is_full_or_no_memory::<QualifiedName>(alloc, &[1, 0, 1, 0, 0, 0, 0x61]));
+    assert!(rt; is_full_or_no_memory::<LocalizedText>(alloc, localized));
+}
+
+#[test]
+fn arrays_or_no_memory(rt: HostRuntime) {
+    let alloc = rt.alloc();
+    let numbers: &[u8] = &[3, 0, 0, 0, 1, 0, 2, 0, 3, 0];
+    let texts: &[u8] = &[2, 0, 0, 0, 1, 0, 0, 0, 0x61, 1, 0, 0, 0, 0x62];
+    assert!(rt; is_full_or_no_memory::<Array<u16>>(alloc, numbers));
+    assert!(rt; is_full_or_no_memory::<Array<UaString>>(alloc, texts));
+}
+
+/// Whether each constructor keeps the three letters, or says that memory ran out.
+fn are_made_or_no_memory(alloc: Global) -> bool {
+    (match UaString::new(alloc, "abc") {
+        Ok(string) => string.get() == Some("abc"),
+        Err(fault) => fault == ValueFault::NoMemory,
+    }) && (match XmlElement::new(alloc, "abc") {
+        Ok(element) => element.get() == Some("abc"),
+        Err(fault) => fault == ValueFault::NoMemory,
+    }) && (match UaBytes::new(alloc, b"abc") {
+        Ok(bytes) => bytes.get() == Some(b"abc".as_slice()),
+        Err(fault) => fault == ValueFault::NoMemory,
+    })
+}
+
+#[test]
+fn constructors_or_no_memory(rt: HostRuntime) {
+    assert!(rt; are_made_or_no_memory(rt.alloc()));
+}
+
+/// The text of a Guid, or an empty one where memory ran out.
+fn guid_text(alloc: Global) -> String {
+    let guid = Guid {
+        data1: 1,
+        data2: 2,
+        data3: 3,
+        data4: [4; 8],
+    };
+    guid.text(alloc).unwrap_or(String::new(alloc))
+}
+
+#[test]
+fn guid_text_or_no_memory(rt: HostRuntime) {
+    let text = guid_text(rt.alloc());
+    assert!(rt; ["", "00000001-0002-0003-0404-040404040404"].contains(&text.as_str()));
+}
+
+const NESTED: &[u8] = &[
+    0xd8, 2, 0, 0, 0, 0x0f, 1, 0, 0, 0, 0xaa, 0x17, 0x01, 0x19, 0x40, 0, 1, 0, 0, 0, 2, 0, 0, 0,
+];
+
+const EXTENSIONS: [&[u8]; 2] = [
+    &[0, 0x48, 1, 2, 0, 0, 0, 0xaa, 0xbb],
+    &[3, 0, 0, 1, 0, 0, 0, b'a', 2, 1, 0, 0, 0, b'x'],
+];
+
+#[test]
+fn values_or_no_memory(rt: HostRuntime) {
+    let alloc = rt.alloc();
+    for bytes in EXTENSIONS {
+        assert!(rt;
+            is_full_or_no_memory::<ExtensionObject>(alloc, bytes),
+            "{bytes:?}"
+        );
+    }
+    assert!(rt; is_full_or_no_memory::<DiagnosticInfo>(alloc, &DIAGNOSTICS));
+    assert!(rt; is_full_or_no_memory::<DataValue>(alloc, &DATA));
+    assert!(rt; is_full_or_no_memory::<Variant>(alloc, NESTED));
+}
+
+fn is_shown_or_no_memory<T: Drop, W: Shown<T>>(made: Result<T, VariantFault>, want: &W) -> bool {
+    match made {
+        Ok(value) => want.is_shown(&value),
+        Err(fault) => fault == VariantFault::NoMemory,
+    }
+}
+
+#[test]
+fn nested_values_or_no_memory(rt: HostRuntime) {
+    let alloc = rt.alloc();
+    assert!(rt; is_shown_or_no_memory(data_of(alloc, Variant::null()), &Depth(2)));
+    let inner = around(alloc, None).ok();
+    let depth = if inner.is_some() { 2 } else { 1 };
+    assert!(rt; is_shown_or_no_memory(around(alloc, inner), &Depth(depth)));
+}
+
+/// Whether the body is read and written, as far as memory goes.
+fn is_body_or_no_memory<B: Body>(alloc: Global, body: &[u8]) -> bool {
+    if body.len() > 1000 {
+        return false;
+    }
+    match B::read_body(alloc, body) {
+        Ok(message) => is_body_written_or_no_memory(alloc, &message, body),
+        Err(fault) => fault == ReadFault::NoMemory,
+    }
+}
+
+fn is_body_written_or_no_memory<B: Body>(alloc: Global, message: &B, body: &[u8]) -> bool {
+    let Ok(mut out) = [7].to_vec(alloc) else {
+        return true;
+    };
+    let wrote = message.write_body(&mut out);
+    is_all_or_nothing(wrote, out.as_slice(), body)
+}
+
+#[test]
+fn messages_of_a_channel_or_no_memory(rt: HostRuntime) {
+    let alloc = rt.alloc();
+    assert!(rt; is_body_or_no_memory::<OpenRequest>(alloc, OPEN_REQUEST_BODY));
+    assert!(rt; is_body_or_no_memory::<OpenResponse>(alloc, OPEN_RESPONSE_BODY));
+    assert!(rt; is_body_or_no_memory::<CloseRequest>(alloc, CLOSE_REQUEST_BODY));
+}
+
+#[test]
+fn requests_or_no_memory(rt: HostRuntime) {
+    for body in [
+        FIND_REQUEST_BODY,
+        ENDPOINTS_REQUEST_BODY,
+        OTHER_REQUEST_BODY,
+    ] {
+        assert!(rt;
+            is_body_or_no_memory::<Request>(rt.alloc(), body),
+            "{body:?}"
+        );
+    }
+}
+
+#[test]
+fn responses_or_no_memory(rt: HostRuntime) {
+    for body in [
+        FIND_RESPONSE_BODY,
+        ENDPOINTS_RESPONSE_BODY,
+        FAULT_RESPONSE_BODY,
+    ] {
+        assert!(rt;
+            is_body_or_no_memory::<Response>(rt.alloc(), body),
+            "{body:?}"
+        );
+    }
+}
+
+fn is_request_copied_or_no_memory<B: Session>(alloc: Global, request: &B, body: &[u8]) -> bool {
+    match request.copied() {
+        Ok(copy) => is_body_written_or_no_memory(alloc, &copy, body),
+        Err(_) => true,
+    }
+}
+
+fn has_copy_or_no_memory<B: Session>(alloc: Global, body: &[u8]) -> bool {
+    if body.len() > 1000 {
+        return false;
+    }
+    match B::read_body(alloc, body) {
+        Ok(request) => is_request_copied_or_no_memory(alloc, &request, body),
+        Err(fault) => fault == ReadFault::NoMemory,
+    }
+}
+
+#[test]
+fn copies_of_requests_or_no_memory(rt: HostRuntime) {
+    for body in [
+        FIND_REQUEST_BODY,
+        ENDPOINTS_REQUEST_BODY,
+        OTHER_REQUEST_BODY,
+    ] {
+        assert!(rt;
+            has_copy_or_no_memory::<Request>(rt.alloc(), body),
+            "{body:?}"
+        );
+    }
+}
+
+/// The one endpoint of the response.
+#[test]
+fn copies_of_endpoints_or_no_memory(rt: HostRuntime) {
+    let endpoint = &ENDPOINTS_RESPONSE_BODY[32..];
+    assert!(rt; is_full_or_no_memory::<EndpointDescription>(rt.alloc(), endpoint));
+}
+
+fn is_made_or_no_memory<H: Header>(alloc: Global) -> bool {
+    match request_of::<H>(alloc, (0, 461), b"\xAA\xBB") {
+        Ok(Some(request)) => is_body_written_or_no_memory(alloc, &request, OTHER_REQUEST_BODY),
+        Ok(None) => false,
+        Err(fault) => fault == ReadFault::NoMemory,
+    }
+}
+
+#[test]
+fn other_requests_or_no_memory(rt: HostRuntime) {
+    assert!(rt; is_made_or_no_memory::<RequestHeader>(rt.alloc()));
+}
+
+fn hello_or_no_memory(alloc: Global) -> bool {
+    let Ok(mut out) = [7].to_vec(alloc) else {
+        return true;
+    };
+    match hello_of(alloc, HELLO) {
+        Ok(hello) => {
+            let wrote = hello.write(&mut out);
+            is_text(&hello.url, "opc.tcp://localhost:4840")
+                && is_all_or_nothing(wrote, out.as_slice(), HELLO)
+        }
+        Err(fault) => fault == ReadFault::NoMemory,
+    }
+}
+
+fn acknowledge_or_no_memory(alloc: Global) -> bool {
+    let Ok(mut out) = [7].to_vec(alloc) else {
+        return true;
+    };
+    let wrote = AGREED.write(&mut out);
+    is_all_or_nothing(wrote, out.as_slice(), ACKNOWLEDGE)
+}
+
+fn error_or_no_memory(alloc: Global) -> bool {
+    let Ok(mut out) = [7].to_vec(alloc) else {
+        return true;
+    };
+    let error = ErrorFrame {
+        status: BAD_TCP_MESSAGE_TYPE_INVALID,
+        reason: UaString::null(),
+    };
+    let wrote = error.write(&mut out);
+    is_all_or_nothing(wrote, out.as_slice(), ERROR)
+}
+
+fn told_or_no_memory(alloc: Global) -> bool {
+    match error_of(alloc, TOLD) {
+        Ok(error) => is_text(&error.reason, "no"),
+        Err(fault) => fault == ReadFault::NoMemory,
+    }
+}
+
+#[test]
+fn frames_or_no_memory(rt: HostRuntime) {
+    let alloc = rt.alloc();
+    assert!(rt; hello_or_no_memory(alloc));
+    assert!(rt; acknowledge_or_no_memory(alloc));
+    assert!(rt; error_or_no_memory(alloc));
+    assert!(rt; told_or_no_memory(alloc));
+}
