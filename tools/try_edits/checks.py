@@ -44,6 +44,10 @@ class Rooms:
         kept = newest(f"{self.top}/kept/{crate.name}/out/incremental")
         return kept > max(newest(f"{crate.folder}/{part}") for part in PARTS)
 
+    def forget_work(self, crate):
+        """Makes room on the disk: the crates above need the library alone."""
+        shutil.rmtree(f"{self.top}/kept/{crate.name}/out/incremental", ignore_errors=True)
+
     def open(self, crate):
         """Makes a room for a check of a crate. Work that is kept is linked, since `rt` puts a new file in the place of an old one."""
         with self.lock:
