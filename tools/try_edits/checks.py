@@ -12,7 +12,7 @@ from try_edits.edits import functions_of, key_of, read, sources, write
 PARTS = ("src", "specs", "proofs")
 HARMLESS = "let _harmless = 0u8;"
 
-# What a check said of a function: whether it is proved, whether a search failed, the places of open goals, and the errors in its proof files.
+# What a check said of a function: whether it is proved, its open goals by name, where they are, and the errors in its proof files.
 Verdict = collections.namedtuple("Verdict", "proved goals notes errors")
 
 
@@ -43,6 +43,10 @@ class Rooms:
         """Whether the work that is kept of a crate is newer than its sources."""
         kept = newest(f"{self.top}/kept/{crate.name}/out/incremental")
         return kept > max(newest(f"{crate.folder}/{part}") for part in PARTS)
+
+    def forget_work(self, crate):
+        """Makes room on the disk: the crates above need the library alone."""
+        shutil.rmtree(f"{self.top}/kept/{crate.name}/out/incremental", ignore_errors=True)
 
     def open(self, crate):
         """Makes a room for a check of a crate. Work that is kept is linked, since `rt` puts a new file in the place of an old one."""
@@ -83,8 +87,9 @@ def rt(folder, *words):
 
 
 OF_FUNCTION = re.compile(r"fn (\S+): (proved|not proved|no proof|could not tell)(.*)")
-OPEN_GOAL = re.compile(r"note: (src/\S+\.rt):(\d+):\d+: it is not proved")
-OF_PROOF_FILE = re.compile(r"(?:\./)?proofs/(\S+)/(?:Answers|Invariants|Proof)\.antt:\d+:\d+: error: (.*)")
+NOT_PROVED = re.compile(r"did not prove ((?:`[^`]+`(?:, )?)+)")
+OPEN_GOAL = re.compile(r"note: (src/\S+\.rt):(\d+):\d+: it is not proved[^(]*\(`([^`]+)`\)")
+OF_PROOF_FILE = re.compile(r"(?:\./)?proofs/(\S+)/(?:Answers|Invariants|Proof)\.antt:\d+:\d+: error: (?:`([^`]*)`: )?(.*)")
 # What says of a proof file only that a name which it cites is gone, or what that name stood for.
 NAME_IS_GONE = re.compile(r"has no field|is not in scope|has no `|was not admitted")
 UNREAD = re.compile(r"(?:\./)?src/\S+\.rt:\d+:\d+: error: (?!`[^`]*`: )|(?:\./)?src/\S+\.rt:\d+:\d+: error: .*is not in scope")
@@ -95,29 +100,48 @@ def verdicts_of(said):
     lines = said.split("\n")
     if not any(it.startswith(("logic=proved", "logic=not-proved")) for it in lines) or any(map(UNREAD.match, lines)):
         return None
-    errors = collections.defaultdict(list)
-    for line in lines:
-        found = OF_PROOF_FILE.match(line)
-        if found:
-            errors[tuple(found[1].split("/"))].append(found[2])
     verdicts, notes = {}, []
     for line in lines:
         goal, function = OPEN_GOAL.match(line), OF_FUNCTION.match(line)
         if goal:
-            notes.append((goal[1], int(goal[2])))
+            notes.append((goal[1], int(goal[2]), goal[3]))
         elif function:
-            path = tuple(function[1].split("::")[1:])
-            goals = "did not prove" in function[3]
-            verdicts[path] = Verdict(function[2] == "proved", goals, notes, errors.get(path, []))
+            named = NOT_PROVED.search(function[3])
+            goals = {*(re.findall(r"`([^`]+)`", named[1]) if named else []), *(it[2] for it in notes)}
+            verdicts[tuple(function[1].split("::")[1:])] = Verdict(function[2] == "proved", goals, notes, [])
             notes = []
-    return verdicts
+    for error in filter(None, map(OF_PROOF_FILE.match, lines)):
+        path = path_of_proofs(tuple(error[1].split("/")), error[2] or "", verdicts)
+        if path in verdicts:
+            verdicts[path].errors.append(error[3])
+    return {path: of_its_own(path, verdicts) for path in verdicts}
+
+
+def path_of_proofs(folder, answer, verdicts):
+    """The function that an answer is for. A cycle of calls has one folder, +NAME, and names each answer for its member first."""
+    if not folder[-1].startswith("+"):
+        return folder
+    members = [it for it in verdicts if it[: len(folder) - 1] == folder[:-1] and answer.startswith(it[-1] + "-")]
+    return max(members, key=lambda it: len(it[-1]), default=(*folder[:-1], folder[-1][1:]))
+
+
+def of_its_own(path, verdicts):
+    """The verdict of a function without the goals of others of its cycle, which a check says of each member of it."""
+    verdict = verdicts[path]
+
+    def is_of_another(goal):
+        named = [it for it in verdicts if goal in verdicts[it].goals and goal.startswith(it[-1] + "-")]
+        return bool(named) and path not in named
+
+    notes = [it for it in verdict.notes if not is_of_another(it[2])]
+    return verdict._replace(goals={it for it in verdict.goals if not is_of_another(it)}, notes=notes)
 
 
 def why_refused(verdict):
     """Why a function is refused on its own account, not for what it calls."""
     if verdict.proved:
         return None
-    if verdict.goals or verdict.notes:
+    if verdict.goals:
         return "goal"
     if any(not NAME_IS_GONE.search(it) for it in verdict.errors):
         return "proof file"
@@ -175,7 +199,7 @@ class Checked:
         paths = paths_of(function, self.verdicts)
         spans = [(it.file, it.first, it.last) for it in self.functions if key_of(it) == key_of(function)]
         for path, verdict in self.verdicts.items():
-            if any(file == at[0] and at[1] <= line <= at[2] for file, line in verdict.notes for at in spans):
+            if any(file == at[0] and at[1] <= line <= at[2] for file, line, _ in verdict.notes for at in spans):
                 paths.append(path)
         return {path: why for path, why in self.refused().items() if path in paths}
 
