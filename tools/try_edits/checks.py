@@ -80,10 +80,32 @@ def link(folder, to):
         shutil.copytree(folder, to, copy_function=os.link)
 
 
+class Stopped(Exception):
+    """The run was told to stop."""
+
+
+RUNNING, STOPPING = set(), threading.Event()
+
+
 def rt(folder, *words):
     """Runs a command of `rt` in a crate's folder, and returns its exit status and what it wrote."""
-    ran = subprocess.run(["rt", *words], cwd=folder, stdin=subprocess.DEVNULL, stdout=subprocess.PIPE, stderr=subprocess.STDOUT)
-    return ran.returncode, ran.stdout.decode("utf-8", "replace")
+    if STOPPING.is_set():
+        raise Stopped
+    ran = subprocess.Popen(["rt", *words], cwd=folder, stdin=subprocess.DEVNULL, stdout=subprocess.PIPE, stderr=subprocess.STDOUT)
+    RUNNING.add(ran)
+    said, _ = ran.communicate()
+    RUNNING.discard(ran)
+    if STOPPING.is_set():
+        raise Stopped
+    return ran.returncode, said.decode("utf-8", "replace")
+
+
+def stop(*_):
+    """Ends all that runs, on a signal. (`rt` ends what it started itself.)"""
+    STOPPING.set()
+    for ran in list(RUNNING):
+        ran.kill()
+    raise SystemExit(1)
 
 
 OF_FUNCTION = re.compile(r"fn (\S+): (proved|not proved|no proof|could not tell)(.*)")
