@@ -75,20 +75,23 @@ pub fn faithful()
     ensures { Faithful in_flight }
 {}
 
-/// After every schedule, the server was handed a beginning of what was asked, in order; and each answer that the client
-/// accepted is the discovery answer to its own request, or the abort in its place where that passes the client's limits.
+/// The law of both ends, its first part. For every setup and every schedule of requests that are values: what the server
+/// is handed is a beginning of what the client asked, in order; and each answer that the client accepted stands in the
+/// place of its request and under its id, and is the discovery answer at the moment at which the server had the request
+/// whole, or the abort in its place where that answer passes the limits that the client's Hello names. Tokens may die
+/// on the way, and not all need be delivered. OPC 10000-4, 5.5; OPC 10000-6, 6.7 and 7.1.
 pub fn handed()
     ensures { HandedAndAccepted in_flight }
 {}
 
-/// While each token lives that a delivered MSG or CLO names, after every schedule the server has met no fault, and
-/// neither has the client.
+/// Its second part. While each token lives that a delivered MSG or CLO names, counted from its issue at the end that
+/// receives it: the server has met no fault, and neither has the client. OPC 10000-4, 5.6.2; OPC 10000-6, 6.7.
 pub fn unrefused()
     ensures { NothingRefused in_flight }
 {}
 
-/// While each token lives that a delivered MSG or CLO names, once all that was sent is delivered each way, all that was
-/// asked is handed on and answered.
+/// Its third part. While those tokens live, once all that was sent is delivered each way: all that was asked is handed
+/// on, and each of it is answered.
 pub fn answered()
     ensures { NoneUnanswered in_flight }
 {}

@@ -12,7 +12,6 @@ use Rattle.ua_conn.specs.client.Reading.{ClientReading, client_fault_at, client_
 use Rattle.ua_conn.specs.client.Sending.{sent_all, sent_by}
 use Rattle.ua_conn.specs.client.Asking.{InFlight, standing, act_rows, ask_fault}
 use Rattle.ua_conn.specs.declared.client.fault.ClientFault.{ClientFault}
-use Rattle.ua_conn.specs.declared.client.ask_fault.AskFault.{AskFault}
 use Rattle.ua_conn.specs.declared.client.ask_fault.AskFault.TheVariants.{Ended, NotOpen}
 use Rattle.ua_conn.proofs.ClientEnd.StopLemmas.{client_reading_stays}
 
