@@ -14,3 +14,6 @@ pub mod MatchedLemmas
 pub mod CountLemmas
 pub mod AcceptedLemmas
 pub mod FirstFaultLemmas
+pub mod WaitingLemmas
+pub mod QuestionLemmas
+pub mod TellingLemmas

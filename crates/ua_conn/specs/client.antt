@@ -11,3 +11,6 @@ pub mod Held
 pub mod Feeding
 pub mod Machine
 pub mod FirstFault
+pub mod Taking
+pub mod Ranges
+pub mod Telling
