@@ -12,6 +12,3 @@ mod token;
 pub use channel::{Issued, ServerChannel};
 pub use client::ClientChannel;
 pub use token::Token;
-
-#[cfg(test)]
-mod tests;

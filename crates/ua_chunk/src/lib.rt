@@ -8,8 +8,6 @@ mod content;
 pub mod laws;
 mod opening;
 mod sequence;
-#[cfg(test)]
-mod tests;
 mod writing;
 
 pub use assembly::{Added, Assembly};

@@ -19,6 +19,3 @@ pub use outcome::{End, Outcome};
 pub use schedule::Step;
 pub use server::{Fed, FeedFault, Server, answer_all};
 pub use story::{Setup, Story};
-
-#[cfg(test)]
-mod tests;

@@ -1,38 +1,41 @@
 //! Settings that are refused, and the text of their first fault.
 
-use super::with_more;
-use crate::{DEFAULT, Settings};
 use std::alloc::{AllocError, Global};
-use std::process::Abort;
-use std::test::Fail;
+use ua_disco::{DEFAULT, Settings};
 
-/// The text of the first fault; empty where there is none.
-fn fault_text(alloc: Global, text: &[u8]) -> Result<String, AllocError> {
+/// Whether the first fault of the text is shown so; empty where there is none.
+fn has_fault(alloc: Global, text: &[u8], fault: &str) -> bool {
     match Settings::from_toml(alloc, text) {
-        Ok(_) => Ok(String::new(alloc)),
-        Err(fault) => fault.to_string(alloc),
+        Ok(_) => fault.is_empty(),
+        Err(found) => match found.to_string(alloc) {
+            Ok(shown) => shown.as_str() == fault,
+            Err(_) => false,
+        },
     }
 }
 
-fn says(rt: &impl Abort, alloc: Global, text: &[u8], fault: &str) -> Result<(), AllocError> {
-    let found = fault_text(alloc, text)?;
-    assert_eq!(rt; found.as_str(), fault, "{text:?}");
-    Ok(())
+fn with_more(alloc: Global, front: &str, more: &str) -> Result<String, AllocError> {
+    let mut text = String::from_str(alloc, front)?;
+    text.push_str(more)?;
+    Ok(text)
 }
 
-/// What such texts behind the front are refused with.
-fn refused(
-    rt: &impl Abort,
-    alloc: Global,
-    front: &str,
-    rows: &[(&str, &str)],
-) -> Result<(), AllocError> {
+/// Whether the text behind the front has this first fault.
+fn is_refused(alloc: Global, front: &str, more: &str, fault: &str) -> bool {
+    match with_more(alloc, front, more) {
+        Ok(text) => has_fault(alloc, text.as_str().as_bytes(), fault),
+        Err(_) => false,
+    }
+}
+
+/// The first text of the rows that, behind the front, has another first fault.
+fn other<'a>(alloc: Global, front: &str, rows: &[(&'a str, &str)]) -> Option<&'a str> {
     for (more, fault) in rows {
-        let text = with_more(alloc, front, more)?;
-        let found = fault_text(alloc, text.as_bytes())?;
-        assert_eq!(rt; found.as_str(), *fault, "{text}");
+        if !is_refused(alloc, front, more, fault) {
+            return Some(*more);
+        }
     }
-    Ok(())
+    None
 }
 
 const WHOLE: [(&str, &str); 24] = [
@@ -80,14 +83,17 @@ const WHOLE: [(&str, &str); 24] = [
     (DEFAULT, ""),
 ];
 
+const SECOND_ENDPOINT: [(&str, &str); 1] = [(
+    "[[endpoint]]\nurl = \"u\"\nmode = 4\n",
+    "settings 4 endpoint.1.mode",
+)];
+
 #[test]
-fn texts_are_refused_at_their_first_fault(rt: HostRuntime) -> Result<(), Fail> {
+fn texts_are_refused_at_their_first_fault(rt: HostRuntime) {
     let alloc = rt.alloc();
-    refused(&rt, alloc, "", &WHOLE)?;
-    says(&rt, alloc, b"version = 1 # \xFF", "settings 1")?;
-    let more = "[[endpoint]]\nurl = \"u\"\nmode = 4\n";
-    refused(&rt, alloc, DEFAULT, &[(more, "settings 4 endpoint.1.mode")])?;
-    Ok(())
+    assert_eq!(rt; other(alloc, "", &WHOLE), None);
+    assert!(rt; has_fault(alloc, b"version = 1 # \xFF", "settings 1"));
+    assert_eq!(rt; other(alloc, DEFAULT, &SECOND_ENDPOINT), None);
 }
 
 /// An application that is still without names.
@@ -160,11 +166,9 @@ const FIELDS: [(&str, &str); 14] = [
 ];
 
 #[test]
-fn applications_are_refused_at_their_first_fault(rt: HostRuntime) -> Result<(), Fail> {
-    let alloc = rt.alloc();
-    refused(&rt, alloc, APPLICATION, &NAMES)?;
-    refused(&rt, alloc, LEAST, &FIELDS)?;
-    Ok(())
+fn applications_are_refused_at_their_first_fault(rt: HostRuntime) {
+    assert_eq!(rt; other(rt.alloc(), APPLICATION, &NAMES), None);
+    assert_eq!(rt; other(rt.alloc(), LEAST, &FIELDS), None);
 }
 
 const ENDPOINT: &str =
@@ -250,14 +254,15 @@ const LIMITS: [(&str, &str); 17] = [
     ("receive = 0\nchunks = 1", "settings 5 limits.chunks"),
 ];
 
+/// The least settings up to their limits.
+const LIMITED: &str =
+    "version = 1\n[application]\nuri = \"u\"\nnames = [{ text = \"n\" }]\n[limits]\n";
+
 #[test]
-fn endpoints_and_limits_are_refused_at_their_first_fault(rt: HostRuntime) -> Result<(), Fail> {
-    let alloc = rt.alloc();
-    refused(&rt, alloc, ENDPOINT, &ENDPOINTS)?;
-    refused(&rt, alloc, ENDPOINT, &TOKENS)?;
-    let limits = with_more(alloc, LEAST, "[limits]\n")?;
-    refused(&rt, alloc, &limits, &LIMITS)?;
-    Ok(())
+fn endpoints_and_limits_are_refused_at_their_first_fault(rt: HostRuntime) {
+    assert_eq!(rt; other(rt.alloc(), ENDPOINT, &ENDPOINTS), None);
+    assert_eq!(rt; other(rt.alloc(), ENDPOINT, &TOKENS), None);
+    assert_eq!(rt; other(rt.alloc(), LIMITED, &LIMITS), None);
 }
 
 /// A text in which a part stands so often between two others.
@@ -309,21 +314,26 @@ const LONG: [(&str, &str, usize, &str, &str); 8] = [
     ),
 ];
 
-fn bounded(
-    rt: &impl Abort,
+fn is_bounded(
     alloc: Global,
-    rows: &[(&str, &str, usize, &str, &str)],
-) -> Result<(), AllocError> {
-    for (front, part, times, back, fault) in rows {
-        let text = repeated(alloc, front, part, *times, back)?;
-        let found = fault_text(alloc, text.as_bytes())?;
-        assert_eq!(rt; found.as_str(), *fault, "{part} {times}");
+    front: &str,
+    part: &str,
+    times: usize,
+    back: &str,
+    fault: &str,
+) -> bool {
+    match repeated(alloc, front, part, times, back) {
+        Ok(text) => has_fault(alloc, text.as_str().as_bytes(), fault),
+        Err(_) => false,
     }
-    Ok(())
 }
 
 #[test]
-fn long_values_are_refused(rt: HostRuntime) -> Result<(), Fail> {
-    bounded(&rt, rt.alloc(), &LONG)?;
-    Ok(())
+fn long_values_are_refused(rt: HostRuntime) {
+    for (front, part, times, back, fault) in LONG {
+        assert!(rt;
+            is_bounded(rt.alloc(), front, part, times, back, fault),
+            "{part} {times}"
+        );
+    }
 }

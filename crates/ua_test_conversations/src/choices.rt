@@ -1,14 +1,13 @@
 //! Which name, which applications and which endpoints an answer has.
 
-use super::vectors::{
+use crate::answers::{answers_at, asking};
+use crate::bytes::joined;
+use crate::vectors::{
     BINARY_PROFILE, EMPTY, ENDPOINTS, ENDPOINTS_FOUND, ENDPOINTS_RESPONSE, FIND, FIND_RESPONSE,
     NULL, SERVERS_FOUND,
 };
-use super::{answers_at, asking, joined};
-use crate::DEFAULT;
 use std::alloc::Global;
-use std::process::Abort;
-use std::test::Fail;
+use ua_disco::DEFAULT;
 
 /// The settings by default without endpoints, with a name in a second language.
 const TWO_NAMES: &str = r#"version = 1
@@ -40,25 +39,30 @@ const NAMES: [(&[u8], &[u8]); 7] = [
     (b"\x01\0\0\0\x05\0\0\0de-DE", ENGLISH),
 ];
 
-fn named(
-    rt: &impl Abort,
-    alloc: Global,
-    settings: &str,
-    rows: &[(&[u8], &[u8])],
-) -> Result<(), Fail> {
-    for (locales, name) in rows {
-        let request = asking(alloc, FIND, locales, NULL)?;
-        let mut answer = joined(alloc, &[SERVERS_FOUND, b"\x01\0\0\0", BEFORE_NAME])?;
-        answer.extend_from_slice(name)?;
-        answer.extend_from_slice(BEHIND_NAME)?;
-        answers_at(rt, alloc, settings, 0, &request, &answer)?;
+/// Whether settings answer a request for servers in these languages by their application under this name.
+fn is_named(alloc: Global, settings: &str, locales: &[u8], name: &[u8]) -> bool {
+    match (
+        asking(alloc, FIND, locales, NULL),
+        joined(
+            alloc,
+            &[SERVERS_FOUND, b"\x01\0\0\0", BEFORE_NAME, name, BEHIND_NAME],
+        ),
+    ) {
+        (Ok(request), Ok(answer)) => {
+            answers_at(alloc, settings, 0, request.as_slice(), answer.as_slice())
+        }
+        _ => false,
     }
-    Ok(())
 }
 
 #[test]
-fn names_are_in_the_earliest_language_that_is_there(rt: HostRuntime) -> Result<(), Fail> {
-    named(&rt, rt.alloc(), TWO_NAMES, &NAMES)
+fn names_are_in_the_earliest_language_that_is_there(rt: HostRuntime) {
+    for (locales, name) in NAMES {
+        assert!(rt;
+            is_named(rt.alloc(), TWO_NAMES, locales, name),
+            "{locales:?}"
+        );
+    }
 }
 
 /// The second name is in no language.
@@ -77,17 +81,23 @@ const NO_LOCALES: [(&[u8], &[u8]); 2] = [
 ];
 
 #[test]
-fn a_null_locale_is_that_of_a_name_without_one(rt: HostRuntime) -> Result<(), Fail> {
-    named(&rt, rt.alloc(), WITHOUT_LOCALE, &NO_LOCALES)
+fn a_null_locale_is_that_of_a_name_without_one(rt: HostRuntime) {
+    for (locales, name) in NO_LOCALES {
+        assert!(rt;
+            is_named(rt.alloc(), WITHOUT_LOCALE, locales, name),
+            "{locales:?}"
+        );
+    }
 }
 
+/// Frames without servers and without endpoints.
 const NO_SERVERS: &[u8] =
-    b"\x01\0\xA9\x01\0\0\0\0\0\0\0\0\x02\0\0\0\0\0\0\0\0\xFF\xFF\xFF\xFF\0\0\0\0\0\0\0";
+    b"MSGF\x38\0\0\0\x01\0\0\0\x01\0\0\0\x02\0\0\0\x02\0\0\0\x01\0\xA9\x01\0\0\0\0\0\0\0\0\x02\0\0\0\0\0\0\0\0\xFF\xFF\xFF\xFF\0\0\0\0\0\0\0";
 
 const NO_ENDPOINTS: &[u8] =
-    b"\x01\0\xAF\x01\0\0\0\0\0\0\0\0\x02\0\0\0\0\0\0\0\0\xFF\xFF\xFF\xFF\0\0\0\0\0\0\0";
+    b"MSGF\x38\0\0\0\x01\0\0\0\x01\0\0\0\x02\0\0\0\x02\0\0\0\x01\0\xAF\x01\0\0\0\0\0\0\0\0\x02\0\0\0\0\0\0\0\0\xFF\xFF\xFF\xFF\0\0\0\0\0\0\0";
 
-/// The filter of a request of this id, and the answer of the settings by default.
+/// The filter of a request of this id, and the frame of what the settings by default answer.
 const FILTERS: [(&[u8], &[u8], &[u8]); 10] = [
     (FIND, NULL, FIND_RESPONSE),
     (FIND, EMPTY, FIND_RESPONSE),
@@ -109,17 +119,18 @@ const FILTERS: [(&[u8], &[u8], &[u8]); 10] = [
     ),
 ];
 
-fn filtered(rt: &impl Abort, alloc: Global, rows: &[(&[u8], &[u8], &[u8])]) -> Result<(), Fail> {
-    for (id, filter, answer) in rows {
-        let request = asking(alloc, id, NULL, filter)?;
-        answers_at(rt, alloc, DEFAULT, 0, &request, answer)?;
+fn is_filtered(alloc: Global, id: &[u8], filter: &[u8], response: &[u8]) -> bool {
+    match (asking(alloc, id, NULL, filter), response.get(24..)) {
+        (Ok(request), Some(answer)) => answers_at(alloc, DEFAULT, 0, request.as_slice(), answer),
+        _ => false,
     }
-    Ok(())
 }
 
 #[test]
-fn filters_ask_for_what_they_name(rt: HostRuntime) -> Result<(), Fail> {
-    filtered(&rt, rt.alloc(), &FILTERS)
+fn filters_ask_for_what_they_name(rt: HostRuntime) {
+    for (id, filter, response) in FILTERS {
+        assert!(rt; is_filtered(rt.alloc(), id, filter, response), "{filter:?}");
+    }
 }
 
 /// Endpoints of two transports by turns.
@@ -152,28 +163,46 @@ const C: &[u8] = b"\x01\0\0\0c";
 
 const X: &[u8] = b"\x01\0\0\0x\0";
 
+const TWO_ENDPOINTS_FOUND: [&[u8]; 8] = [
+    ENDPOINTS_FOUND,
+    b"\x02\0\0\0",
+    A,
+    BETWEEN,
+    X,
+    C,
+    BETWEEN,
+    X,
+];
+
+const THREE_ENDPOINTS_FOUND: [&[u8]; 12] = [
+    ENDPOINTS_FOUND,
+    b"\x03\0\0\0",
+    A,
+    BETWEEN,
+    X,
+    B,
+    BETWEEN,
+    BINARY_PROFILE,
+    b"\0",
+    C,
+    BETWEEN,
+    X,
+];
+
+/// Whether a request for endpoints with this filter is answered by these parts.
+fn finds(alloc: Global, filter: &[u8], parts: &[&[u8]]) -> bool {
+    match (asking(alloc, ENDPOINTS, NULL, filter), joined(alloc, parts)) {
+        (Ok(request), Ok(answer)) => {
+            let (request, answer) = (request.as_slice(), answer.as_slice());
+            answers_at(alloc, THREE_ENDPOINTS, 0, request, answer)
+        }
+        _ => false,
+    }
+}
+
 #[test]
-fn endpoints_keep_their_order(rt: HostRuntime) -> Result<(), Fail> {
+fn endpoints_keep_their_order(rt: HostRuntime) {
     let alloc = rt.alloc();
-    let request = asking(alloc, ENDPOINTS, NULL, b"\x01\0\0\0\x01\0\0\0x")?;
-    let two: [&[u8]; 8] = [ENDPOINTS_FOUND, b"\x02\0\0\0", A, BETWEEN, X, C, BETWEEN, X];
-    let answer = joined(alloc, &two)?;
-    answers_at(&rt, alloc, THREE_ENDPOINTS, 0, &request, &answer)?;
-    let request = asking(alloc, ENDPOINTS, NULL, EMPTY)?;
-    let three: [&[u8]; 12] = [
-        ENDPOINTS_FOUND,
-        b"\x03\0\0\0",
-        A,
-        BETWEEN,
-        X,
-        B,
-        BETWEEN,
-        BINARY_PROFILE,
-        b"\0",
-        C,
-        BETWEEN,
-        X,
-    ];
-    let answer = joined(alloc, &three)?;
-    answers_at(&rt, alloc, THREE_ENDPOINTS, 0, &request, &answer)
+    assert!(rt; finds(alloc, b"\x01\0\0\0\x01\0\0\0x", &TWO_ENDPOINTS_FOUND));
+    assert!(rt; finds(alloc, EMPTY, &THREE_ENDPOINTS_FOUND));
 }

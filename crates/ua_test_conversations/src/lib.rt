@@ -1,0 +1,40 @@
+//! Tests of the libraries of chunks, channels, settings and connections, by their public calls alone.
+//!
+//! Proofs cover what the contracts say; here stands what no clause says: that bytes are those of the standard's frames as other programs write them,
+//! that calls succeed where memory is there, and that each growth may be refused.
+#![tactic(auto)]
+
+#[cfg(test)]
+mod answers;
+#[cfg(test)]
+mod assembling;
+#[cfg(test)]
+mod bytes;
+#[cfg(test)]
+mod channel;
+#[cfg(test)]
+mod choices;
+#[cfg(test)]
+mod chunks;
+#[cfg(test)]
+mod client_channel;
+#[cfg(test)]
+mod conversations;
+#[cfg(test)]
+mod keys;
+#[cfg(test)]
+mod limits;
+#[cfg(test)]
+mod memory;
+#[cfg(test)]
+mod refusals;
+#[cfg(test)]
+mod rows;
+#[cfg(test)]
+mod settings;
+#[cfg(test)]
+mod tokens;
+#[cfg(test)]
+mod vectors;
+#[cfg(test)]
+mod writing;

@@ -1,0 +1,163 @@
+//! Inputs of a connection in pieces that tables name, and whether they are answered so however they are cut.
+
+use crate::bytes::{changed, joined};
+use crate::vectors::HELLO;
+use std::alloc::{AllocError, Global};
+use ua_conn::{End, Outcome, answer_all};
+use ua_disco::{DEFAULT, Settings};
+
+/// A piece of an input or of a reply.
+#[derive(Clone, Copy)]
+pub(crate) enum Piece {
+    /// These bytes.
+    Bytes(&'static [u8]),
+    /// The frame with other bytes in these places.
+    Changed(&'static [u8], &'static [(usize, &'static [u8])]),
+    /// A Hello to a url of so many bytes.
+    HelloTo(u32),
+    /// So many middle chunks of request id 2 without a body, from number 2 on.
+    EmptyParts(u32),
+}
+
+fn put_changed(
+    alloc: Global,
+    frame: &[u8],
+    changes: &[(usize, &[u8])],
+    out: &mut Vec<u8>,
+) -> Result<(), AllocError> {
+    let mut bytes = frame.to_vec(alloc)?;
+    for (at, new) in changes {
+        bytes = changed(alloc, bytes.as_slice(), *at, new)?;
+    }
+    out.extend_from_slice(bytes.as_slice())
+}
+
+fn put_hello_to(len: u32, out: &mut Vec<u8>) -> Result<(), AllocError> {
+    out.extend_from_slice(b"HELF")?;
+    out.extend_from_slice(&len.wrapping_add(32).to_le_bytes())?;
+    out.extend_from_slice(&HELLO[8..28])?;
+    out.extend_from_slice(&len.to_le_bytes())?;
+    for _ in 0..len {
+        out.push(b'x')?;
+    }
+    Ok(())
+}
+
+fn put_empty_parts(count: u32, out: &mut Vec<u8>) -> Result<(), AllocError> {
+    for part in 0..count {
+        out.extend_from_slice(b"MSGC\x18\0\0\0\x01\0\0\0\x01\0\0\0")?;
+        out.extend_from_slice(&part.wrapping_add(2).to_le_bytes())?;
+        out.extend_from_slice(b"\x02\0\0\0")?;
+    }
+    Ok(())
+}
+
+fn put_piece(alloc: Global, piece: Piece, out: &mut Vec<u8>) -> Result<(), AllocError> {
+    match piece {
+        Piece::Bytes(bytes) => out.extend_from_slice(bytes),
+        Piece::Changed(frame, changes) => put_changed(alloc, frame, changes, out),
+        Piece::HelloTo(len) => put_hello_to(len, out),
+        Piece::EmptyParts(count) => put_empty_parts(count, out),
+    }
+}
+
+/// The bytes of the pieces.
+pub(crate) fn made(alloc: Global, pieces: &[Piece]) -> Result<Vec<u8>, AllocError> {
+    let mut all = Vec::new(alloc);
+    for piece in pieces {
+        put_piece(alloc, *piece, &mut all)?;
+    }
+    Ok(all)
+}
+
+/// What is owed for an input: the reply, how many requests are handed on, and the end.
+pub(crate) type Owed<'a> = (&'a [u8], usize, End);
+
+fn is_owed(outcome: &Outcome, owed: Owed) -> bool {
+    let (reply, handed, end) = owed;
+    outcome.reply.as_slice() == reply && outcome.handed.len() == handed && outcome.end == end
+}
+
+/// Whether the settings answer the pieces of an input so, each at its moment.
+pub(crate) fn answers(
+    alloc: Global,
+    settings: &Settings,
+    pieces: &[(i64, &[u8])],
+    owed: Owed,
+) -> bool {
+    match answer_all(alloc, settings, 1, pieces) {
+        Ok(outcome) => is_owed(&outcome, owed),
+        Err(_) => false,
+    }
+}
+
+/// The input in pieces of so many bytes, all at one moment.
+fn cut(alloc: Global, input: &[u8], len: usize) -> Result<Vec<(i64, &[u8])>, AllocError> {
+    let mut pieces = Vec::new(alloc);
+    let mut rest = input;
+    for _ in 0..input.len() {
+        if rest.is_empty() {
+            break;
+        }
+        let (piece, more) = rest.split_at(rest.len().min(len));
+        pieces.push((0, piece))?;
+        rest = more;
+    }
+    Ok(pieces)
+}
+
+fn answers_in_pieces(
+    alloc: Global,
+    settings: &Settings,
+    input: &[u8],
+    len: usize,
+    owed: Owed,
+) -> bool {
+    match cut(alloc, input, len) {
+        Ok(pieces) => answers(alloc, settings, pieces.as_slice(), owed),
+        Err(_) => false,
+    }
+}
+
+/// Whether the settings answer the input so, whole, one byte at a time, and in pieces of 7 and of 100 bytes.
+fn answers_any_cut(alloc: Global, settings: &Settings, input: &[u8], owed: Owed) -> bool {
+    answers_in_pieces(alloc, settings, input, usize::MAX, owed)
+        && answers_in_pieces(alloc, settings, input, 1, owed)
+        && answers_in_pieces(alloc, settings, input, 7, owed)
+        && answers_in_pieces(alloc, settings, input, 100, owed)
+}
+
+/// Whether the settings by default answer the input so, however it is cut.
+pub(crate) fn is_answered(alloc: Global, input: &[u8], owed: Owed) -> bool {
+    match Settings::from_toml(alloc, DEFAULT.as_bytes()) {
+        Ok(settings) => answers_any_cut(alloc, &settings, input, owed),
+        Err(_) => false,
+    }
+}
+
+/// Whether settings of the text answer the pieces so.
+pub(crate) fn says(alloc: Global, text: &str, pieces: &[(i64, &[u8])], owed: Owed) -> bool {
+    match Settings::from_toml(alloc, text.as_bytes()) {
+        Ok(settings) => answers(alloc, &settings, pieces, owed),
+        Err(_) => false,
+    }
+}
+
+/// Whether an input, whole at the moment 0, is answered by these frames by the settings by default.
+pub(crate) fn is_whole_answered(
+    alloc: Global,
+    input: &[u8],
+    frames: &[&[u8]],
+    handed: usize,
+    end: End,
+) -> bool {
+    match joined(alloc, frames) {
+        Ok(reply) => says(
+            alloc,
+            DEFAULT,
+            &[(0, input)],
+            (reply.as_slice(), handed, end),
+        ),
+        Err(_) => false,
+    }
+}
