@@ -1,6 +1,5 @@
 -- What the command `answer` prints, and its exit status.
-use Rattle.std.specs.Prelude.{◌≡◌, ℕ, ◌-◌, true, List, ◌++◌, map, length, replicate, codes, Option, Ok, IfSome}
-use Rattle.std.specs.Fmt.{digits}
+use Rattle.std.specs.Prelude.{◌≡◌, ℕ, List, ◌++◌, map, codes, Option, Ok, IfSome}
 use Rattle.std.specs.Io.KnownBytes.{Appends}
 use Rattle.hex.specs.Hex.{encode_lower}
 use Rattle.ua_frame.specs.Streams.{Piece, TimedByte, moment_of, timed}
@@ -10,6 +9,7 @@ use Rattle.ua_conn.specs.server.Replies.{reply_bytes, end_of}
 use Rattle.ua_conn.specs.server.Site.{Site}
 use Rattle.ua_conn.specs.declared.outcome.End.{End}
 use Rattle.ua_conn.specs.declared.outcome.End.TheVariants.{Closed, InputEnded, Truncated, Refused, LinkFailed, TurnsSpent, NoMemory}
+use Rattle.uadisc.specs.Printed.{status_text}
 use Rattle.uadisc.specs.Script.{Timed, script_in}
 use Rattle.uadisc.specs.Settings.{IsSettings}
 use Rattle.uadisc.specs.declared.settings.Source.{Source}
@@ -31,10 +31,6 @@ piece_of p = record { moment = moment_of p.0; bytes = p.1 }
 -- the stream that the pieces of a script bring
 abbrev pub stream_of : List Timed → List TimedByte
 stream_of pieces = timed (map piece_of pieces)
-
--- a status as eight hex digits in upper case
-abbrev pub status_text : ℕ → List ℕ
-status_text status = replicate (8 - length (digits 16 true status)) 48 ++ digits 16 true status
 
 abbrev pub end_text : End → List ℕ
 end_text Closed = codes "closed"

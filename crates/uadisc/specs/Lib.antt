@@ -4,6 +4,9 @@ pub mod Script
 pub mod Settings
 pub mod Stop
 pub mod Printed
+pub mod FrameLine
+pub mod Capture
 pub mod End
 pub mod Answer
+pub mod Show
 pub mod Run

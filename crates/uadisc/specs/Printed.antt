@@ -1,7 +1,7 @@
 -- What the command prints.
-use Rattle.std.specs.Prelude.{◌≡◌, ℕ, nat_lt, nat_le, ◌==◌, ◌&&◌, ◌/◌, ◌%◌, ◌+◌, not, if◌then◌else◌, List, ◌++◌, ◌∷◌, [], codes, length, Option, Some, None, Ok}
+use Rattle.std.specs.Prelude.{◌≡◌, ℕ, nat_lt, nat_le, ◌==◌, ◌&&◌, ◌/◌, ◌%◌, ◌+◌, ◌-◌, not, true, if◌then◌else◌, List, ◌++◌, ◌∷◌, [], codes, length, replicate, Option, Some, None, Ok}
 use Rattle.std.specs.List.{flat_map}
-use Rattle.std.specs.Fmt.{decimal}
+use Rattle.std.specs.Fmt.{decimal, digits}
 use Rattle.std.specs.Int.{w8, w16, w32, w64}
 use Rattle.hex.specs.Hex.{encode_lower}
 use Rattle.uuid.specs.Text.{hyphenated_text, lower}
@@ -58,6 +58,10 @@ namespace_text namespace = if namespace == 0 then [] else codes "ns=" ++ decimal
 
 abbrev pub node_text : NodeId → List ℕ
 node_text node = namespace_text node.namespace ++ identifier_text node.identifier
+
+-- a status as eight hex digits in upper case
+abbrev pub status_text : ℕ → List ℕ
+status_text status = replicate (8 - length (digits 16 true status)) 48 ++ digits 16 true status
 
 -- the two lines of each value
 abbrev pub value_lines : ℕ → ℕ → List ℕ → List ℕ

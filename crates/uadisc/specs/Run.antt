@@ -4,9 +4,10 @@ use Rattle.clap.specs.Words.{Text}
 use Rattle.uadisc.specs.Answer.{AnswersBy}
 use Rattle.uadisc.specs.Command.{AsksFor}
 use Rattle.uadisc.specs.Printed.{Shape, shape_of, PrintsOnto, RefusesOnto}
+use Rattle.uadisc.specs.Show.{ShowsCapture}
 use Rattle.uadisc.specs.Stop.{status_of, IsAnswerStop, IsQuiet}
 use Rattle.uadisc.specs.declared.command.Command.{Command}
-use Rattle.uadisc.specs.declared.command.Command.TheVariants.{Answer, Value}
+use Rattle.uadisc.specs.declared.command.Command.TheVariants.{Answer, Value, Show}
 use Rattle.uadisc.specs.declared.stop.Stop.{Stop}
 use Rattle.uadisc.specs.declared.settings.Source.{Source}
 use Rattle.uadisc.specs.declared.stop.Stop.TheVariants.{Words, Settings, Line, File, NoMemory}
@@ -21,6 +22,7 @@ pub record Shows (s : Shape) (input : List ℕ) (old new : Option (List ℕ)) (s
 abbrev pub Does : Command → Option (List ℕ) → Option (List ℕ) → Option (List ℕ) → ℕ → Type 0
 Does (Answer source) left old new status = AnswersBy source left old new status
 Does (Value kind bytes) left old new status = Shows (shape_of kind) bytes.items old new status
+Does (Show capture) left old new status = ShowsCapture capture left old new status
 
 -- the command that the words ask for is done
 abbrev pub Done : List Text → Option (List ℕ) → Option (List ℕ) → Option (List ℕ) → ℕ → Type 0

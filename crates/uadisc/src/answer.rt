@@ -1,7 +1,7 @@
 //! The command `answer`: answers the pieces of a connection.
 
 ghost use Rattle.std.specs.Prelude.{◌≡◌, List, ℕ, IfOk, IfErr, Ok, Some, string_bytes};
-ghost use Rattle.uadisc.specs.Answer.{answer_lines, answered as answered_bytes, ending, end_text, status_text, stream_of, IsInput, AnswersInput, AnswersBy};
+ghost use Rattle.uadisc.specs.Answer.{answer_lines, answered as answered_bytes, ending, end_text, stream_of, IsInput, AnswersInput, AnswersBy};
 ghost use Rattle.uadisc.specs.End.{end_status};
 ghost use Rattle.uadisc.specs.Script.{script_in, times};
 ghost use Rattle.uadisc.specs.Stop.{IsInputStop, IsAnswerStop, IsQuiet};
@@ -10,6 +10,7 @@ use crate::input::read_whole;
 use crate::script::{TimedPiece, script_of};
 use crate::settings::{Source, settings_in};
 use crate::stop::{Stop, print};
+use crate::text::Code;
 use std::alloc::Global;
 use std::fmt;
 use std::io::{Read, Write};
@@ -38,19 +39,6 @@ impl fmt::Display for Ending {
             End::TurnsSpent => f.write_str("turns-spent"),
             End::NoMemory => f.write_str("memory"),
         }
-    }
-}
-
-/// A status as eight hex digits in upper case.
-#[derive(Clone, Copy)]
-struct Code(u32);
-
-#[tactic(auto, using(crate::proofs::Codes::eight_digits))]
-impl fmt::Display for Code {
-    ghost output = { λ c. Some (status_text c.0) };
-
-    fn fmt<W: fmt::Write>(&self, f: &mut fmt::Formatter<W>) -> fmt::Result {
-        write!(f, "{:08X}", self.0)
     }
 }
 

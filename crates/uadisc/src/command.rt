@@ -4,9 +4,10 @@ ghost use Rattle.std.specs.Prelude.{◌≡◌, IfOk, IfErr, false, map};
 ghost use Rattle.clap.specs.Words.{app_of, rule_of, subcommand_rows_of, first_value, found_of};
 ghost use Rattle.clap.specs.declared.builder.command.Command.TheViews.{out-Command};
 ghost use Rattle.clap.specs.Values.{kind_of};
-ghost use Rattle.uadisc.specs.Command.{Asks, AsksFor, IsWordsFault, IsErrorFault, RefusedBy, IsAnswerOf, IsValueOf, word_rule, answer_app, value_app, uadisc};
+ghost use Rattle.uadisc.specs.Command.{Asks, AsksFor, IsWordsFault, IsErrorFault, RefusedBy, IsAnswerOf, IsValueOf, IsShowOf, word_rule, answer_app, value_app, show_app, answer_or_value, uadisc};
 
 use crate::settings::Source;
+use crate::show::Capture;
 use crate::type_name::{TypeName, of_name};
 use clap::error::ErrorKind;
 use clap::{Arg, ArgAction, ArgMatches, Command as Parser};
@@ -20,6 +21,8 @@ pub enum Command {
     Answer(Source),
     /// Read a value of this type from these bytes.
     Value { kind: TypeName, bytes: Vec<u8> },
+    /// Show the frames of this capture.
+    Show(Capture),
 }
 
 /// Why the words are no command.
@@ -54,8 +57,15 @@ fn value_parser<'a>(alloc: Global) -> Result<Parser<'a>, AllocError>
         .arg(required(alloc, "hex"))
 }
 
-fn parser<'a>(alloc: Global) -> Result<Parser<'a>, AllocError>
-    ensures app { IfOk result (λ c. app_of c ≡ uadisc) }
+fn show_parser<'a>(alloc: Global) -> Result<Parser<'a>, AllocError>
+    ensures app { IfOk result (λ c. app_of c ≡ show_app) }
+    ensures local { IfOk result (λ c. (out-Command c).has_globals ≡ false) }
+{
+    Parser::new(alloc, "show").arg(required(alloc, "file"))
+}
+
+fn answer_or_value_parser<'a>(alloc: Global) -> Result<Parser<'a>, AllocError>
+    ensures app { IfOk result (λ c. app_of c ≡ answer_or_value) }
     ensures local { IfOk result (λ c. (out-Command c).has_globals ≡ false) }
 {
     let answer = answer_parser(alloc)?;
@@ -67,12 +77,20 @@ fn parser<'a>(alloc: Global) -> Result<Parser<'a>, AllocError>
         .subcommand(value)
 }
 
+fn parser<'a>(alloc: Global) -> Result<Parser<'a>, AllocError>
+    ensures app { IfOk result (λ c. app_of c ≡ uadisc) }
+    ensures local { IfOk result (λ c. (out-Command c).has_globals ≡ false) }
+{
+    let show = show_parser(alloc)?;
+    answer_or_value_parser(alloc)?.subcommand(show)
+}
+
 /// The command that the words are, which are those after the program's name.
 ///
 /// `Refused` has the text to print: that of `clap` where it refuses the words, or asks for its
 /// help, and `words` where it takes them and a word is none that it may be: a type that has no such
-/// name, or hex that is none. The settings are `default`, or else the path of a file, which is not
-/// read here. The call changes nothing.
+/// name, or hex that is none. The settings are `default`, or else the path of a file; a capture is
+/// `-`, standard input, or else the path of a file. No file is read here. The call changes nothing.
 pub fn command_of(alloc: Global, words: &[&str]) -> Result<Command, WordsFault>
     ensures asked { IfOk result (AsksFor (map (λ w. w.now) words.entry.now)) }
     ensures refused { IfErr result (IsWordsFault (map (λ w. w.now) words.entry.now)) }
@@ -116,6 +134,7 @@ fn command_in(alloc: Global, matches: &ArgMatches) -> Result<Command, WordsFault
     match name {
         "answer" => answer_in(alloc, inner),
         "value" => value_in(alloc, inner),
+        "show" => show_in(alloc, inner),
         _ => Err(bad_word(alloc)),
     }
 }
@@ -151,5 +170,19 @@ fn value_in(alloc: Global, matches: &ArgMatches) -> Result<Command, WordsFault>
         Ok(bytes) => Ok(Command::Value { kind, bytes }),
         Err(FromHexError::OutOfMemory) => Err(WordsFault::NoMemory),
         Err(_) => Err(bad_word(alloc)),
+    }
+}
+
+fn show_in(alloc: Global, matches: &ArgMatches) -> Result<Command, WordsFault>
+    ensures asked { IfOk result (IsShowOf (first_value (found_of matches.now))) }
+    ensures refused { IfErr result (RefusedBy (IsShowOf (first_value (found_of matches.now)))) }
+{
+    match matches.get_str("file") {
+        Some("-") => Ok(Command::Show(Capture::Input)),
+        Some(path) => match String::from_str(alloc, path) {
+            Ok(path) => Ok(Command::Show(Capture::File(path))),
+            Err(_) => Err(WordsFault::NoMemory),
+        },
+        None => Err(bad_word(alloc)),
     }
 }

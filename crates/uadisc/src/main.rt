@@ -2,11 +2,15 @@
 #![tactic(auto)]
 
 mod answer;
+mod capture;
 mod command;
+mod file;
+mod frame_line;
 mod input;
 mod run;
 mod script;
 mod settings;
+mod show;
 mod stop;
 mod text;
 mod type_name;

@@ -7,6 +7,7 @@ ghost use Rattle.uadisc.specs.Stop.{status_of, stop_text, IsQuiet};
 
 use crate::answer::answer;
 use crate::command::{Command, command_of};
+use crate::show::show;
 use crate::stop::Stop;
 use crate::value::value;
 use std::io;
@@ -17,7 +18,7 @@ use std::rt::Files;
 mod tests;
 
 /// Runs the command that the words are, which are those after the program's name, and gives the
-/// exit status: 0 done, 1 settings or input refused, 2 words refused, 3 a failed read or write, 4
+/// exit status: 0 done, 1 settings or input refused, or a capture with a frame that is refused or cut, 2 words refused, 3 a failed read or write, 4
 /// want of memory. What stopped the command is told on `errors`, where a failed write is passed over.
 pub fn run<R, I, O, E>(rt: &R, words: &[&str], input: &mut I, output: &mut O, errors: &mut E) -> u8
 where
@@ -63,5 +64,6 @@ fn done<R: Files + AllocGlobal, I: Read, O: Write>(
     match command {
         Command::Answer(source) => answer(rt, &source, input, output),
         Command::Value { kind, bytes } => value(rt.alloc(), kind, bytes.as_slice(), output),
+        Command::Show(capture) => show(rt, &capture, input, output),
     }
 }

@@ -3,13 +3,11 @@
 ghost use Rattle.std.specs.Prelude.{◌≡◌, Ok, IfOk, IfErr};
 ghost use Rattle.ua_disco.specs.Tables.{settings_of as given};
 ghost use Rattle.uadisc.specs.Settings.{IsSettings};
-ghost use Rattle.uadisc.specs.Stop.{IsFileStop, IsTextStop, IsSettingsStop};
+ghost use Rattle.uadisc.specs.Stop.{IsTextStop, IsSettingsStop};
 
-use crate::input::read_whole;
+use crate::file::read_file;
 use crate::stop::Stop;
 use std::alloc::Global;
-use std::fs::File;
-use std::io::ErrorKind;
 use std::rt::Files;
 use ua_disco::{DEFAULT, Settings};
 
@@ -20,17 +18,6 @@ pub enum Source {
     Default,
     /// The file at this path.
     File(String),
-}
-
-/// The bytes of the file at a path, by at most `MOST_READS` reads.
-fn read_file<R: Files + AllocGlobal>(rt: &R, path: &str) -> Result<Vec<u8>, Stop>
-    ensures { IfErr result IsFileStop }
-{
-    match File::open(rt, path) {
-        Ok(mut file) => Ok(read_whole(rt.alloc(), &mut file)?),
-        Err(error) if error.kind() == ErrorKind::OutOfMemory => Err(Stop::NoMemory),
-        Err(_) => Err(Stop::File),
-    }
 }
 
 /// The settings that a text in TOML gives.

@@ -1,10 +1,10 @@
-//! Texts and node ids as the command prints them.
+//! Texts, node ids and statuses as the command prints them.
 
 ghost use Rattle.std.specs.Prelude.{◌≡◌, ◌<◌, ◌∷◌, [], Some};
 ghost use Rattle.std.specs.Char.{encode_utf8};
 ghost use Rattle.std.specs.List.{flat_map};
 ghost use Rattle.std.specs.Option.{option_map};
-ghost use Rattle.uadisc.specs.Printed.{escaped, hex_digit, two_digits, quoted, node_text};
+ghost use Rattle.uadisc.specs.Printed.{escaped, hex_digit, two_digits, quoted, node_text, status_text};
 
 use std::fmt;
 use ua_value::{Identifier, NodeId};
@@ -121,5 +121,18 @@ impl fmt::Display for Node<'_> {
                 None => f.write_str("b=null"),
             },
         }
+    }
+}
+
+/// A status as eight hex digits in upper case.
+#[derive(Clone, Copy)]
+pub struct Code(pub u32);
+
+#[tactic(auto, using(crate::proofs::Codes::eight_digits))]
+impl fmt::Display for Code {
+    ghost output = { λ c. Some (status_text c.0) };
+
+    fn fmt<W: fmt::Write>(&self, f: &mut fmt::Formatter<W>) -> fmt::Result {
+        write!(f, "{:08X}", self.0)
     }
 }
