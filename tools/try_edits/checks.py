@@ -30,19 +30,21 @@ class Rooms:
         self.count, self.lock = 0, threading.Lock()
 
     def keep(self, crate):
-        to = f"{self.top}/kept/{crate.name}"
+        """Copies a crate, with what is kept of it and of use: its library, and the work of its checks where there is something to check."""
+        to, out = f"{self.top}/kept/{crate.name}", f"{crate.folder}/out"
         copy_sources(crate, to)
-        for part in ("incremental", "rlib"):
-            if os.path.isdir(f"{crate.folder}/out/{part}"):
-                shutil.copytree(f"{crate.folder}/out/{part}", f"{to}/out/{part}")
+        built = newest_of(crate) < newest(f"{out}/rlib")
+        if os.path.isfile(f"{out}/rlib/stamp"):
+            shutil.copytree(f"{out}/rlib", f"{to}/out/rlib")
+        if os.path.isdir(f"{out}/incremental") and (crate.places or not built):
+            shutil.copytree(f"{out}/incremental", f"{to}/out/incremental")
 
     def has_library(self, crate):
         return os.path.isfile(f"{self.top}/kept/{crate.name}/out/rlib/stamp")
 
     def has_new_work(self, crate):
         """Whether the work that is kept of a crate is newer than its sources."""
-        kept = newest(f"{self.top}/kept/{crate.name}/out/incremental")
-        return kept > max(newest(f"{crate.folder}/{part}") for part in PARTS)
+        return newest_of(crate) < newest(f"{self.top}/kept/{crate.name}/out/incremental")
 
     def forget_work(self, crate):
         """Makes room on the disk: the crates above need the library alone."""
@@ -73,6 +75,10 @@ class Rooms:
 def newest(folder):
     times = [os.path.getmtime(f"{at}/{name}") for at, _, names in os.walk(folder) for name in names]
     return max(times, default=0)
+
+
+def newest_of(crate):
+    return max(newest(f"{crate.folder}/{part}") for part in PARTS)
 
 
 def link(folder, to):
@@ -181,28 +187,26 @@ def in_names(text):
     return found[1][:1].upper() + found[1][1:] if found else ""
 
 
-def owner_fits(segments, owner):
-    """Whether what stands between module and function in a path may be this `impl` or `trait`."""
-    if owner is None or len(segments) != 1:
-        return owner is None and not segments
+def is_owner(segment, owner):
+    """Whether a part of a path may be this `impl` or `trait`."""
     text = re.sub(r"\A(impl|trait)(?:<(?:[^<>]|<[^<>]*>)*>)?\s*", "", owner)
     trait, is_trait, of = text.partition(" for ")
     if not is_trait:
-        return segments[0] == in_names(text)
+        return segment == in_names(text)
     parts = in_names(trait) + "".join(map(in_names, re.findall(r"<(\w+)>", trait)))
-    return segments[0].startswith(in_names(of)) and segments[0].endswith((in_names(trait), parts))
+    return segment.startswith(in_names(of)) and segment.endswith((in_names(trait), parts))
 
 
 def paths_of(function, verdicts):
-    """The paths that a function may have: one, unless its `impl` is of a type without a name."""
-    module, found = module_of(function.file), []
-    for path in verdicts:
-        rest = path[len(module) :]
-        if path[: len(module)] == module and function.name in rest:
-            # (what follows the name is a closure in it)
-            if owner_fits(rest[: rest.index(function.name)], function.owner):
-                found.append(path)
-    return found
+    """The paths that a function may have, with those of the closures in it: one, unless its `impl` is of a type without a name."""
+    named = [it for it in verdicts if function.name in it]
+    before = {it: it[: it.index(function.name)] for it in named}
+    module = module_of(function.file)
+    if not function.owner:
+        return [it for it in named if before[it] == module]
+    owned = [it for it in named if before[it] and is_owner(before[it][-1], function.owner)]
+    # (the methods of a type stand in the module of the type, in whatever file its `impl` is)
+    return [it for it in owned if before[it][:-1] == module] or owned
 
 
 class Checked:

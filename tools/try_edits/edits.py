@@ -116,7 +116,7 @@ def pairs_of(text):
 
 def function_at(functions, line, pair):
     """The innermost function whose body has a line, or begins with what the pair puts behind its brace."""
-    goes_on = pair.old.endswith("{") and pair.new.startswith(pair.old)
+    goes_on = pair.old.endswith("{") and "{" in pair.new
     found = [it for it in functions if it.body < line < it.last or line == it.first == it.last or line == it.body and goes_on]
     return found[-1] if found else None
 

@@ -29,10 +29,31 @@ def run_in_lanes(lanes, tasks):
                 left += it.result()
 
 
+def numbers_in(path):
+    try:
+        with open(path, encoding="ascii") as file:
+            return [int(it) for it in re.findall(r"\d+", file.read())]
+    except OSError:
+        return []
+
+
+def free_memory():
+    """The free memory in bytes, under the limit of the control group too."""
+    with open("/proc/meminfo", encoding="ascii") as file:
+        free = 1024 * int(re.search(r"MemAvailable:\s+(\d+)", file.read())[1])
+    limit, held = numbers_in("/sys/fs/cgroup/memory.max"), numbers_in("/sys/fs/cgroup/memory.current")
+    return min(free, limit[0] - held[0]) if limit and held else free
+
+
+def processors():
+    """The processors that this process may use, by the quota of its control group too."""
+    found = len(os.sched_getaffinity(0))
+    quota = numbers_in("/sys/fs/cgroup/cpu.max")
+    return min(found, max(1, quota[0] // quota[1])) if len(quota) == 2 else found
+
+
 def lanes():
     """How many checks may run side by side."""
-    with open("/proc/meminfo", encoding="ascii") as file:
-        free = int(re.search(r"MemAvailable:\s+(\d+)", file.read())[1]) / 1e6
     number = os.environ.get("RT_JOBS", "")
-    wanted = int(number) if number.isdigit() and int(number) else len(os.sched_getaffinity(0))
-    return max(1, min(wanted, int(free / GIGABYTES_A_LANE)))
+    wanted = int(number) if number.isdigit() and int(number) else processors()
+    return max(1, min(wanted, int(free_memory() / GIGABYTES_A_LANE / 1e9)))
