@@ -1,27 +1,27 @@
 //! Whole connections of a server, byte for byte.
 
 use crate::bytes::{chunk, joined};
+use crate::rows::Phase::{Acknowledged, Begun, Opened};
 use crate::rows::Piece::{Bytes, Changed, EmptyParts, HelloTo};
-use crate::rows::{Piece, answers, is_answered, made, says};
+use crate::rows::{Phase, Piece, answers, is_answered, made, replied, said, says};
 use crate::vectors::{
     ABORT_TOO_LARGE, ACKNOWLEDGE, CLOSE_REQUEST, ENDPOINTS_REQUEST, ENDPOINTS_RESPONSE,
     FAULT_RESPONSE, FIND_BODY, FIND_REQUEST, FIND_RESPONSE, HELLO, OPEN_REQUEST, OPEN_RESPONSE,
-    OTHER_REQUEST,
+    OPENED, OTHER_REQUEST,
 };
 use std::alloc::Global;
 use ua_conn::{End, FeedFault, Server};
 use ua_disco::{DEFAULT, Settings};
 
-/// What is answered: a name, the input, the reply, how many requests are handed on, and the end.
-type Row = (&'static str, &'static [Piece], &'static [Piece], usize, End);
-
-const HELLO_SAID: Piece = Bytes(HELLO);
-
-const OPEN_ASKED: Piece = Bytes(OPEN_REQUEST);
-
-const ACKNOWLEDGED: Piece = Bytes(ACKNOWLEDGE);
-
-const OPENED: Piece = Bytes(OPEN_RESPONSE);
+/// What is answered: a name, how far the connection has come, what is said then, the reply to that, how many requests are handed on, and the end.
+type Row = (
+    &'static str,
+    Phase,
+    &'static [Piece],
+    &'static [Piece],
+    usize,
+    End,
+);
 
 /// The first part of a FindServers request, the second one, and an abort of them by the client.
 const FIRST_PART: Piece = Bytes(b"MSGC\x1A\0\0\0\x01\0\0\0\x01\0\0\0\x02\0\0\0\x02\0\0\0\x01\0");
@@ -31,10 +31,11 @@ const SECOND_PART: Piece = Bytes(b"MSGC\x19\0\0\0\x01\0\0\0\x01\0\0\0\x03\0\0\0\
 const GIVEN_UP: Piece = Changed(ABORT_TOO_LARGE, &[(16, b"\x04"), (24, b"\0\0\x80\x80")]);
 
 const ROWS: [Row; 18] = [
-    ("hello", &[HELLO_SAID], &[ACKNOWLEDGED], 0, End::InputEnded),
-    ("no bytes", &[], &[], 0, End::InputEnded),
+    ("hello", Acknowledged, &[], &[], 0, End::InputEnded),
+    ("no bytes", Begun, &[], &[], 0, End::InputEnded),
     (
         "receive 8192",
+        Begun,
         &[Changed(HELLO, &[(12, b"\0\x20")])],
         &[Changed(ACKNOWLEDGE, &[(16, b"\0\x20")])],
         0,
@@ -42,150 +43,152 @@ const ROWS: [Row; 18] = [
     ),
     (
         "url of 4095 bytes",
+        Begun,
         &[HelloTo(4095)],
-        &[ACKNOWLEDGED],
+        &[Bytes(ACKNOWLEDGE)],
         0,
         End::InputEnded,
     ),
     (
         "longest frame",
-        &[HELLO_SAID, Bytes(b"MSGF\xFF\xFF\0\0")],
-        &[ACKNOWLEDGED],
+        Acknowledged,
+        &[Bytes(b"MSGF\xFF\xFF\0\0")],
+        &[],
         0,
         End::Truncated,
     ),
-    (
-        "opening",
-        &[HELLO_SAID, OPEN_ASKED],
-        &[ACKNOWLEDGED, OPENED],
-        0,
-        End::InputEnded,
-    ),
+    ("opening", Opened, &[], &[], 0, End::InputEnded),
     (
         "find servers",
-        &[HELLO_SAID, OPEN_ASKED, Bytes(FIND_REQUEST)],
-        &[ACKNOWLEDGED, OPENED, Bytes(FIND_RESPONSE)],
+        Opened,
+        &[Bytes(FIND_REQUEST)],
+        &[Bytes(FIND_RESPONSE)],
         1,
         End::InputEnded,
     ),
     (
         "get endpoints",
-        &[HELLO_SAID, OPEN_ASKED, Bytes(ENDPOINTS_REQUEST)],
-        &[ACKNOWLEDGED, OPENED, Bytes(ENDPOINTS_RESPONSE)],
+        Opened,
+        &[Bytes(ENDPOINTS_REQUEST)],
+        &[Bytes(ENDPOINTS_RESPONSE)],
         1,
         End::InputEnded,
     ),
     (
         "another service",
-        &[HELLO_SAID, OPEN_ASKED, Bytes(OTHER_REQUEST)],
-        &[ACKNOWLEDGED, OPENED, Bytes(FAULT_RESPONSE)],
+        Opened,
+        &[Bytes(OTHER_REQUEST)],
+        &[Bytes(FAULT_RESPONSE)],
         1,
         End::InputEnded,
     ),
     (
         "close",
-        &[
-            HELLO_SAID,
-            OPEN_ASKED,
-            Bytes(OTHER_REQUEST),
-            Bytes(CLOSE_REQUEST),
-            Bytes(b"GET"),
-        ],
-        &[ACKNOWLEDGED, OPENED, Bytes(FAULT_RESPONSE)],
+        Opened,
+        &[Bytes(OTHER_REQUEST), Bytes(CLOSE_REQUEST), Bytes(b"GET")],
+        &[Bytes(FAULT_RESPONSE)],
         1,
         End::Closed,
     ),
     (
         "close inside a message",
-        &[HELLO_SAID, OPEN_ASKED, FIRST_PART, Bytes(CLOSE_REQUEST)],
-        &[ACKNOWLEDGED, OPENED],
+        Opened,
+        &[FIRST_PART, Bytes(CLOSE_REQUEST)],
+        &[],
         0,
         End::Closed,
     ),
     (
         "aborted message",
+        Opened,
         &[
-            HELLO_SAID,
-            OPEN_ASKED,
             FIRST_PART,
             SECOND_PART,
             GIVEN_UP,
             Changed(FIND_REQUEST, &[(16, b"\x05\0\0\0\x03")]),
         ],
-        &[
-            ACKNOWLEDGED,
-            OPENED,
-            Changed(FIND_RESPONSE, &[(20, b"\x03")]),
-        ],
+        &[Changed(FIND_RESPONSE, &[(20, b"\x03")])],
         1,
         End::InputEnded,
     ),
     (
         "64 parts",
-        &[HELLO_SAID, OPEN_ASKED, EmptyParts(64)],
-        &[ACKNOWLEDGED, OPENED],
+        Opened,
+        &[EmptyParts(64)],
+        &[],
         0,
         End::InputEnded,
     ),
     (
         "answers of 27 bytes",
+        Begun,
         &[
             Changed(HELLO, &[(20, b"\x1B")]),
-            OPEN_ASKED,
+            Bytes(OPEN_REQUEST),
             Bytes(OTHER_REQUEST),
         ],
-        &[ACKNOWLEDGED, OPENED, Bytes(ABORT_TOO_LARGE)],
+        &[Bytes(OPENED), Bytes(ABORT_TOO_LARGE)],
         1,
         End::InputEnded,
     ),
     (
         "answers of 28 bytes",
+        Begun,
         &[
             Changed(HELLO, &[(20, b"\x1C")]),
-            OPEN_ASKED,
+            Bytes(OPEN_REQUEST),
             Bytes(OTHER_REQUEST),
         ],
-        &[ACKNOWLEDGED, OPENED, Bytes(FAULT_RESPONSE)],
+        &[Bytes(OPENED), Bytes(FAULT_RESPONSE)],
         1,
         End::InputEnded,
     ),
     (
         "answers of 109 bytes",
+        Begun,
         &[
             Changed(HELLO, &[(20, b"\x6D")]),
-            OPEN_ASKED,
+            Bytes(OPEN_REQUEST),
             Bytes(FIND_REQUEST),
         ],
-        &[ACKNOWLEDGED, OPENED, Bytes(ABORT_TOO_LARGE)],
+        &[Bytes(OPENED), Bytes(ABORT_TOO_LARGE)],
         1,
         End::InputEnded,
     ),
     (
         "answers of 110 bytes",
+        Begun,
         &[
             Changed(HELLO, &[(20, b"\x6E")]),
-            OPEN_ASKED,
+            Bytes(OPEN_REQUEST),
             Bytes(FIND_REQUEST),
         ],
-        &[ACKNOWLEDGED, OPENED, Bytes(FIND_RESPONSE)],
+        &[Bytes(OPENED), Bytes(FIND_RESPONSE)],
         1,
         End::InputEnded,
     ),
     (
         "close first",
-        &[
-            HELLO_SAID,
-            OPEN_ASKED,
-            Changed(CLOSE_REQUEST, &[(16, b"\x02")]),
-        ],
-        &[ACKNOWLEDGED, OPENED],
+        Opened,
+        &[Changed(CLOSE_REQUEST, &[(16, b"\x02")])],
+        &[],
         0,
         End::Closed,
     ),
 ];
 
-fn holds(alloc: Global, input: &[Piece], reply: &[Piece], handed: usize, end: End) -> bool {
-    match (made(alloc, input), made(alloc, reply)) {
+fn holds(
+    alloc: Global,
+    phase: Phase,
+    input: &[Piece],
+    reply: &[Piece],
+    handed: usize,
+    end: End,
+) -> bool {
+    match (
+        made(alloc, said(phase), input),
+        made(alloc, replied(phase), reply),
+    ) {
         (Ok(input), Ok(reply)) => {
             is_answered(alloc, input.as_slice(), (reply.as_slice(), handed, end))
         }
@@ -195,8 +198,8 @@ fn holds(alloc: Global, input: &[Piece], reply: &[Piece], handed: usize, end: En
 
 /// The name of the first row that does not hold.
 fn other(alloc: Global, rows: &[Row]) -> Option<&'static str> {
-    for (name, input, reply, handed, end) in rows {
-        if !holds(alloc, input, reply, *handed, *end) {
+    for (name, phase, input, reply, handed, end) in rows {
+        if !holds(alloc, *phase, input, reply, *handed, *end) {
             return Some(*name);
         }
     }

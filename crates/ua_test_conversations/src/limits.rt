@@ -94,7 +94,8 @@ const ACKNOWLEDGED: [Piece; 1] = [Changed(ACKNOWLEDGE, SMALL)];
 
 /// Whether a request for the hundred endpoints behind this Hello is answered by these bytes.
 fn is_answered_by(alloc: Global, text: &str, hello: Piece, answer: &[u8]) -> bool {
-    let (Ok(hello), Ok(acknowledge)) = (made(alloc, &[hello]), made(alloc, &ACKNOWLEDGED)) else {
+    let (Ok(hello), Ok(acknowledge)) = (made(alloc, b"", &[hello]), made(alloc, b"", &ACKNOWLEDGED))
+    else {
         return false;
     };
     let pieces: [(i64, &[u8]); 3] = [

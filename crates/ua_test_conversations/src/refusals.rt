@@ -1,305 +1,240 @@
 //! Each refusal of the server, in the order in which it judges.
 
 use crate::bytes::{joined, numbered};
+use crate::rows::Phase::{Acknowledged, Begun, Opened};
 use crate::rows::Piece::{Bytes, Changed, EmptyParts, HelloTo};
-use crate::rows::{Piece, is_answered, made};
+use crate::rows::{Phase, Piece, is_answered, made, replied, said};
 use crate::vectors::{
-    ABORT_TOO_LARGE, ACKNOWLEDGE, CLOSE_REQUEST, FIND_REQUEST, HELLO, OPEN_REQUEST, OPEN_RESPONSE,
-    RENEW_REQUEST, SIGNED_REQUEST,
+    ABORT_TOO_LARGE, ACKNOWLEDGE, CLOSE_REQUEST, FIND_REQUEST, HELLO, OPEN_REQUEST, RENEW_REQUEST,
+    SIGNED_REQUEST,
 };
 use std::alloc::{AllocError, Global};
 use ua_conn::End;
 
-/// What is refused: a name, the input, the frames of the reply before the error, and the status.
-type Refusal = (
-    &'static str,
-    &'static [Piece],
-    &'static [&'static [u8]],
-    u32,
-);
-
-const HELLO_SAID: Piece = Bytes(HELLO);
-
-const OPEN_ASKED: Piece = Bytes(OPEN_REQUEST);
-
-const NOTHING: &[&[u8]] = &[];
-
-const ACKNOWLEDGED: &[&[u8]] = &[ACKNOWLEDGE];
-
-const OPENED: &[&[u8]] = &[ACKNOWLEDGE, OPEN_RESPONSE];
+/// What is refused: a name, how far the connection has come, what is said then, and the status.
+type Refusal = (&'static str, Phase, &'static [Piece], u32);
 
 /// The FindServers request as a middle chunk.
 const MIDDLE: Piece = Changed(FIND_REQUEST, &[(3, b"C")]);
 
 const REFUSALS: [Refusal; 35] = [
-    ("unknown type", &[Bytes(b"GET / HT")], NOTHING, 0x807E_0000),
+    ("unknown type", Begun, &[Bytes(b"GET / HT")], 0x807E_0000),
     (
         "wrong flag",
+        Begun,
         &[Changed(HELLO, &[(3, b"C")])],
-        NOTHING,
         0x807E_0000,
     ),
     (
         "size under a header",
+        Begun,
         &[Changed(HELLO, &[(4, b"\x07")])],
-        NOTHING,
         0x8007_0000,
     ),
     (
         "size over the limit",
+        Begun,
         &[Changed(HELLO, &[(4, b"\x01\x20")])],
-        NOTHING,
         0x8080_0000,
     ),
     (
         "size over the limit, on the first eight bytes",
+        Begun,
         &[Bytes(b"HELF\x01\x20\0\0")],
-        NOTHING,
         0x8080_0000,
     ),
     (
         "size over the limit after the Acknowledge",
-        &[HELLO_SAID, Bytes(b"MSGF\0\0\x01\0")],
-        ACKNOWLEDGED,
+        Acknowledged,
+        &[Bytes(b"MSGF\0\0\x01\0")],
         0x8080_0000,
     ),
     (
         "type out of turn: an OPN first",
-        &[OPEN_ASKED],
-        NOTHING,
+        Begun,
+        &[Bytes(OPEN_REQUEST)],
         0x807E_0000,
     ),
     (
         "type out of turn: an Acknowledge first",
+        Begun,
         &[Bytes(ACKNOWLEDGE)],
-        NOTHING,
         0x807E_0000,
     ),
     (
         "type out of turn: two Hellos",
-        &[HELLO_SAID, HELLO_SAID],
-        ACKNOWLEDGED,
+        Acknowledged,
+        &[Bytes(HELLO)],
         0x807E_0000,
     ),
     (
         "type out of turn: a message before a channel",
-        &[HELLO_SAID, Bytes(b"MSGF\x08\0\0\0")],
-        ACKNOWLEDGED,
+        Acknowledged,
+        &[Bytes(b"MSGF\x08\0\0\0")],
         0x807E_0000,
     ),
     (
         "hello layout: a shorter url",
+        Begun,
         &[Changed(HELLO, &[(28, b"\x17")])],
-        NOTHING,
         0x8007_0000,
     ),
     (
         "hello layout: a byte left over",
+        Begun,
         &[Changed(HELLO, &[(4, b"\x39")]), Bytes(b"\0")],
-        NOTHING,
         0x8007_0000,
     ),
-    ("url too long", &[HelloTo(4096)], NOTHING, 0x8083_0000),
+    ("url too long", Begun, &[HelloTo(4096)], 0x8083_0000),
     (
         "buffer too small",
+        Begun,
         &[Changed(HELLO, &[(12, b"\xFF\x1F")])],
-        NOTHING,
         0x8081_0000,
     ),
     (
         "open layout",
-        &[HELLO_SAID, Changed(OPEN_REQUEST, &[(12, b"\x30")])],
-        ACKNOWLEDGED,
+        Acknowledged,
+        &[Changed(OPEN_REQUEST, &[(12, b"\x30")])],
         0x8007_0000,
     ),
     (
         "open channel",
-        &[HELLO_SAID, Changed(OPEN_REQUEST, &[(8, b"\x01")])],
-        ACKNOWLEDGED,
+        Acknowledged,
+        &[Changed(OPEN_REQUEST, &[(8, b"\x01")])],
         0x807F_0000,
     ),
     (
         "open channel: a second opening",
-        &[HELLO_SAID, OPEN_ASKED, OPEN_ASKED],
-        OPENED,
+        Opened,
+        &[Bytes(OPEN_REQUEST)],
         0x807F_0000,
     ),
     (
         "policy",
-        &[HELLO_SAID, Bytes(SIGNED_REQUEST)],
-        ACKNOWLEDGED,
+        Acknowledged,
+        &[Bytes(SIGNED_REQUEST)],
         0x8055_0000,
     ),
     (
         "open sequence number",
-        &[
-            HELLO_SAID,
-            OPEN_ASKED,
-            Changed(RENEW_REQUEST, &[(71, b"\x03")]),
-        ],
-        OPENED,
+        Opened,
+        &[Changed(RENEW_REQUEST, &[(71, b"\x03")])],
         0x8088_0000,
     ),
     (
         "open inside a message",
-        &[
-            HELLO_SAID,
-            OPEN_ASKED,
-            MIDDLE,
-            Changed(RENEW_REQUEST, &[(71, b"\x03")]),
-        ],
-        OPENED,
+        Opened,
+        &[MIDDLE, Changed(RENEW_REQUEST, &[(71, b"\x03")])],
         0x807E_0000,
     ),
     (
         "open body",
-        &[HELLO_SAID, Changed(OPEN_REQUEST, &[(81, b"\xBF")])],
-        ACKNOWLEDGED,
+        Acknowledged,
+        &[Changed(OPEN_REQUEST, &[(81, b"\xBF")])],
         0x8007_0000,
     ),
     (
         "request type: a renewal first",
-        &[HELLO_SAID, Changed(OPEN_REQUEST, &[(116, b"\x01")])],
-        ACKNOWLEDGED,
+        Acknowledged,
+        &[Changed(OPEN_REQUEST, &[(116, b"\x01")])],
         0x8053_0000,
     ),
     (
         "request type: a second issue",
-        &[
-            HELLO_SAID,
-            OPEN_ASKED,
-            Changed(RENEW_REQUEST, &[(116, b"\0")]),
-        ],
-        OPENED,
+        Opened,
+        &[Changed(RENEW_REQUEST, &[(116, b"\0")])],
         0x8053_0000,
     ),
     (
         "security mode",
-        &[HELLO_SAID, Changed(OPEN_REQUEST, &[(120, b"\x02")])],
-        ACKNOWLEDGED,
+        Acknowledged,
+        &[Changed(OPEN_REQUEST, &[(120, b"\x02")])],
         0x8054_0000,
     ),
     (
         "message layout",
-        &[
-            HELLO_SAID,
-            OPEN_ASKED,
-            Bytes(b"MSGF\x14\0\0\0\x01\0\0\0\x01\0\0\0\x02\0\0\0"),
-        ],
-        OPENED,
+        Opened,
+        &[Bytes(b"MSGF\x14\0\0\0\x01\0\0\0\x01\0\0\0\x02\0\0\0")],
         0x8007_0000,
     ),
     (
         "message layout: a byte short",
-        &[
-            HELLO_SAID,
-            OPEN_ASKED,
-            Bytes(b"MSGF\x17\0\0\0\x01\0\0\0\x01\0\0\0\x02\0\0\0\x02\0\0"),
-        ],
-        OPENED,
+        Opened,
+        &[Bytes(b"MSGF\x17\0\0\0\x01\0\0\0\x01\0\0\0\x02\0\0\0\x02\0\0")],
         0x8007_0000,
     ),
     (
         "message channel",
-        &[
-            HELLO_SAID,
-            OPEN_ASKED,
-            Changed(FIND_REQUEST, &[(8, b"\x02")]),
-        ],
-        OPENED,
+        Opened,
+        &[Changed(FIND_REQUEST, &[(8, b"\x02")])],
         0x807F_0000,
     ),
     (
         "token",
-        &[
-            HELLO_SAID,
-            OPEN_ASKED,
-            Changed(FIND_REQUEST, &[(12, b"\x02")]),
-        ],
-        OPENED,
+        Opened,
+        &[Changed(FIND_REQUEST, &[(12, b"\x02")])],
         0x8087_0000,
     ),
     (
         "message sequence number",
-        &[
-            HELLO_SAID,
-            OPEN_ASKED,
-            Changed(FIND_REQUEST, &[(16, b"\x03")]),
-        ],
-        OPENED,
+        Opened,
+        &[Changed(FIND_REQUEST, &[(16, b"\x03")])],
         0x8088_0000,
     ),
     (
         "other request id",
-        &[
-            HELLO_SAID,
-            OPEN_ASKED,
-            MIDDLE,
-            Changed(FIND_REQUEST, &[(16, b"\x03\0\0\0\x03")]),
-        ],
-        OPENED,
+        Opened,
+        &[MIDDLE, Changed(FIND_REQUEST, &[(16, b"\x03\0\0\0\x03")])],
         0x807E_0000,
     ),
     (
         "message too large: a 65th part",
-        &[HELLO_SAID, OPEN_ASKED, EmptyParts(65)],
-        OPENED,
+        Opened,
+        &[EmptyParts(65)],
         0x8080_0000,
     ),
     (
         "message body: a byte short",
-        &[
-            HELLO_SAID,
-            OPEN_ASKED,
-            Changed(FIND_REQUEST, &[(4, b"\x5C")]),
-        ],
-        OPENED,
+        Opened,
+        &[Changed(FIND_REQUEST, &[(4, b"\x5C")])],
         0x8007_0000,
     ),
     (
         "message body: a byte of the next frame",
-        &[
-            HELLO_SAID,
-            OPEN_ASKED,
-            Changed(FIND_REQUEST, &[(4, b"\x5E")]),
-            Bytes(CLOSE_REQUEST),
-        ],
-        OPENED,
+        Opened,
+        &[Changed(FIND_REQUEST, &[(4, b"\x5E")]), Bytes(CLOSE_REQUEST)],
         0x8007_0000,
     ),
     (
         "message body: an abort a byte short",
-        &[
-            HELLO_SAID,
-            OPEN_ASKED,
-            Changed(ABORT_TOO_LARGE, &[(4, b"\x1F")]),
-        ],
-        OPENED,
+        Opened,
+        &[Changed(ABORT_TOO_LARGE, &[(4, b"\x1F")])],
         0x8007_0000,
     ),
     (
         "message body: a close with a byte left over",
+        Opened,
         &[
-            HELLO_SAID,
-            OPEN_ASKED,
             Changed(CLOSE_REQUEST, &[(4, b"\x3A"), (16, b"\x02")]),
             Bytes(b"\0"),
         ],
-        OPENED,
         0x8007_0000,
     ),
 ];
 
-/// The reply: the frames, and the error.
-fn refusal(alloc: Global, frames: &[&[u8]], status: u32) -> Result<Vec<u8>, AllocError> {
+/// The reply so far, and the error.
+fn refusal(alloc: Global, phase: Phase, status: u32) -> Result<Vec<u8>, AllocError> {
     let error = numbered(alloc, b"ERRF", &[16, status, u32::MAX])?;
-    let before = joined(alloc, frames)?;
-    joined(alloc, &[before.as_slice(), error.as_slice()])
+    joined(alloc, &[replied(phase), error.as_slice()])
 }
 
 /// Whether the input is refused so, however it is cut.
-fn is_refused(alloc: Global, input: &[Piece], frames: &[&[u8]], status: u32) -> bool {
-    match (made(alloc, input), refusal(alloc, frames, status)) {
+fn is_refused(alloc: Global, phase: Phase, input: &[Piece], status: u32) -> bool {
+    match (
+        made(alloc, said(phase), input),
+        refusal(alloc, phase, status),
+    ) {
         (Ok(input), Ok(reply)) => {
             let owed = (reply.as_slice(), 0, End::Refused(status));
             is_answered(alloc, input.as_slice(), owed)
@@ -310,8 +245,8 @@ fn is_refused(alloc: Global, input: &[Piece], frames: &[&[u8]], status: u32) -> 
 
 /// The name of the first row that does not hold.
 fn other(alloc: Global, rows: &[Refusal]) -> Option<&'static str> {
-    for (name, input, frames, status) in rows {
-        if !is_refused(alloc, input, frames, *status) {
+    for (name, phase, input, status) in rows {
+        if !is_refused(alloc, *phase, input, *status) {
             return Some(*name);
         }
     }

@@ -1,10 +1,39 @@
 //! Inputs of a connection in pieces that tables name, and whether they are answered so however they are cut.
 
 use crate::bytes::{changed, joined};
-use crate::vectors::HELLO;
+use crate::vectors::{ACKNOWLEDGE, HELLO, OPENED, OPENING};
 use std::alloc::{AllocError, Global};
 use ua_conn::{End, Outcome, answer_all};
 use ua_disco::{DEFAULT, Settings};
+
+/// How far a connection has come.
+#[derive(Clone, Copy)]
+pub(crate) enum Phase {
+    /// Nothing was said.
+    Begun,
+    /// The Hello was acknowledged.
+    Acknowledged,
+    /// The channel was opened.
+    Opened,
+}
+
+/// What the client has said so far.
+pub(crate) fn said(phase: Phase) -> &'static [u8] {
+    match phase {
+        Phase::Begun => b"",
+        Phase::Acknowledged => HELLO,
+        Phase::Opened => OPENING,
+    }
+}
+
+/// What the server has answered so far.
+pub(crate) fn replied(phase: Phase) -> &'static [u8] {
+    match phase {
+        Phase::Begun => b"",
+        Phase::Acknowledged => ACKNOWLEDGE,
+        Phase::Opened => OPENED,
+    }
+}
 
 /// A piece of an input or of a reply.
 #[derive(Clone, Copy)]
@@ -61,9 +90,9 @@ fn put_piece(alloc: Global, piece: Piece, out: &mut Vec<u8>) -> Result<(), Alloc
     }
 }
 
-/// The bytes of the pieces.
-pub(crate) fn made(alloc: Global, pieces: &[Piece]) -> Result<Vec<u8>, AllocError> {
-    let mut all = Vec::new(alloc);
+/// The bytes of the pieces behind the front.
+pub(crate) fn made(alloc: Global, front: &[u8], pieces: &[Piece]) -> Result<Vec<u8>, AllocError> {
+    let mut all = front.to_vec(alloc)?;
     for piece in pieces {
         put_piece(alloc, *piece, &mut all)?;
     }

@@ -226,7 +226,7 @@ const THREE_RENEWALS: Renewed = (
 
 fn is_renewed(alloc: Global, row: Renewed) -> bool {
     let (input, reply, handed) = row;
-    match (made(alloc, input), made(alloc, reply)) {
+    match (made(alloc, b"", input), made(alloc, b"", reply)) {
         (Ok(input), Ok(reply)) => {
             let owed = (reply.as_slice(), handed, End::InputEnded);
             is_answered(alloc, input.as_slice(), owed)
@@ -253,7 +253,10 @@ const OLD_TOKEN_REFUSED: [Piece; 5] = [
 ];
 
 fn old_token_is_refused(alloc: Global) -> bool {
-    match (made(alloc, &OLD_TOKEN), made(alloc, &OLD_TOKEN_REFUSED)) {
+    match (
+        made(alloc, b"", &OLD_TOKEN),
+        made(alloc, b"", &OLD_TOKEN_REFUSED),
+    ) {
         (Ok(input), Ok(reply)) => {
             let owed = (reply.as_slice(), 0, End::Refused(0x8087_0000));
             is_answered(alloc, input.as_slice(), owed)
