@@ -4,9 +4,14 @@
 mod clock;
 mod link;
 mod memory_link;
+mod sending;
+mod serving;
 mod tcp_link;
+mod turn;
 
 pub use clock::{Clock, MachineClock};
 pub use link::{Link, LinkFault};
 pub use memory_link::MemoryLink;
+pub use serving::{Report, serve_connection};
 pub use tcp_link::TcpLink;
+pub use turn::{Turn, pump};

@@ -1,0 +1,4 @@
+pub mod ReadLemmas
+pub mod EndLemmas
+pub mod TurnLemmas
+pub mod ReportLemmas
