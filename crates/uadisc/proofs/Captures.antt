@@ -1,17 +1,15 @@
 -- What is shown of some bytes, by what stands at their front.
-use Rattle.std.proofs.Common.{◌≡◌, ℕ, ◌+◌, ◌≤◌, true, false, List, [], ◌∷◌, ◌++◌, map, length, take, drop, string_bytes, Option, Some, None, Result, Ok, Err, IfOk, refl, sym, ap, subst, ◌∙◌, append_assoc, arith, inl, inr}
-use Rattle.std.specs.Prelude.{◌⊎◌}
-use Rattle.std.proofs.lemmas.List.{length-take-le, length-drop, drop-map, drop-drop, append-nil}
+use Rattle.std.proofs.Common.{◌≡◌, ℕ, ◌+◌, ◌≤◌, List, [], ◌∷◌, ◌++◌, length, take, drop, string_bytes, Option, Some, None, Result, Ok, Err, IfOk, refl, sym, ap, subst, ◌∙◌, append_assoc, arith, inl, inr}
+use Rattle.std.proofs.lemmas.List.{length-take-le, drop-map, drop-drop}
 use Rattle.std.proofs.lemmas.Bool.{cases_Bool}
 use Rattle.ua_frame.specs.Streams.{TimedByte, at, plain, size_of, IsFrame, begins_frame, rest_of}
 use Rattle.ua_frame.specs.StreamLaws.{plain_at, plain_take, length_plain, begins_one, begins_none}
-use Rattle.ua_frame.specs.Layout.{Frame, Parts, IsFrameOf, frame_by, frames_of}
+use Rattle.ua_frame.specs.Layout.{Parts, IsFrameOf, frames_of}
 use Rattle.ua_frame.specs.LayoutLaws.{frames_step, frames_stop, front_size}
 use Rattle.ua_frame.specs.HeaderRows.{header_fault}
 use Rattle.ua_frame.specs.HeaderLaws.{header_fault_take, header_fault_long}
-use Rattle.ua_chunk.specs.Content.{content_in, content_at}
+use Rattle.ua_chunk.specs.Content.{content_at}
 use Rattle.ua_chunk.specs.ContentLaws.{content_is}
-use Rattle.ua_chunk.specs.declared.content.Content.{Content}
 use Rattle.uadisc.specs.Capture.{longest, Shown, behind, half_after, content_lines, bad_shown, cut_shown, rest_shown, frame_shown, frames_shown, at_once, shown_from, Ends, AddsFrame, AddsFront}
 use Rattle.uadisc.specs.FrameLine.{bad_line, rest_line}
 use Rattle.uadisc.specs.declared.capture.Lines.{Lines}

@@ -1,5 +1,5 @@
 -- The line of a frame, by what it carries, and the line of a whole message.
-use Rattle.std.specs.Prelude.{ℕ, List, ◌++◌, ◌∷◌, [], codes, length, Option, Some, None}
+use Rattle.std.specs.Prelude.{ℕ, List, ◌++◌, codes, length, Option, Some, None}
 use Rattle.std.specs.Char.{encode_utf8}
 use Rattle.std.specs.Fmt.{decimal}
 use Rattle.std.specs.Option.{option_map}

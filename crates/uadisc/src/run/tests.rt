@@ -1,3 +1,5 @@
+mod show;
+
 use super::*;
 use std::alloc::{AllocError, Global};
 use std::process::Abort;
