@@ -18,7 +18,7 @@ pub use frame::{Frame, frame_at};
 pub use hello::Hello;
 pub use kind::Kind;
 pub use limits::Limits;
-pub use negotiation::negotiate;
+pub use negotiation::{acceptable, negotiate};
 
 #[cfg(test)]
 mod tests;
