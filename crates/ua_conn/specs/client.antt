@@ -10,3 +10,5 @@ pub mod Asking
 pub mod Held
 pub mod Feeding
 pub mod Machine
+pub mod Taking
+pub mod Ranges

@@ -10,7 +10,7 @@ mod server;
 mod status;
 mod story;
 
-pub use client::{Answer, AnswerResult, AskFault, Calls, Client, ClientConfig, ClientFault};
+pub use client::{Answer, AnswerResult, AskFault, Calls, Client, ClientConfig, ClientFault, Feeds};
 pub use converse::Converses;
 pub use outcome::{End, Outcome};
 pub use schedule::Step;

@@ -1,0 +1,26 @@
+//! What a piece of the server's bytes brings.
+
+ghost use Rattle.std.specs.Prelude.{◌≡◌, ◌↔◌, true, false, IfOk, IfErr, OnErr, IsErrOf};
+ghost use Rattle.ua_frame.specs.Streams.{moment_of as counted};
+ghost use Rattle.ua_conn.specs.client.Asking.{in_flight};
+ghost use Rattle.ua_conn.specs.client.Feeding.{HandsAll, FailsAll};
+
+use crate::client::{Answer, Client, ClientFault};
+
+pub trait Feeds {
+    /// Takes one more piece of the server's bytes, which came at `now`: ticks of 100 ns since 1601-01-01 UTC. A moment
+    /// before 0, or before that of an earlier call, counts as that.
+    ///
+    /// The result has the answers that the piece made whole, each with the request that was asked under its id. The
+    /// output gains the first open request, once the Acknowledge came. `ServerSaid` and `Broken` say what was wrong
+    /// with the first frame that is refused; answers that came whole before it in the same piece are given up, and the
+    /// output has gained what the frames before it ask for. `NoMemory` says that a growth was refused; the output has
+    /// then gained whole frames that begin that gain. After each of these the client takes no more. `Ended` says that
+    /// it took no more already; nothing has changed. OPC 10000-6, 6.7 and 7.1.2; OPC 10000-4, 5.6.2 and 7.35.
+    fn feed(client: &mut Client, now: i64, piece: &[u8]) -> Result<Vec<Answer>, ClientFault>
+        ensures hands { IfOk result (λ answers. HandsAll in_flight client.old (record { moment = counted now; bytes = piece.now }) client.new answers.items) }
+        ensures fails { IfErr result (λ fault. client.old.failed ≡ false → FailsAll in_flight client.old (record { moment = counted now; bytes = piece.now }) client.new fault) }
+        ensures failed { OnErr result (client.new.failed ≡ true) }
+        ensures ended { IsErrOf result ClientFault.Ended ↔ (client.old.failed ≡ true) }
+        ensures unchanged { client.old.failed ≡ true → client.new ≡ client.old };
+}
