@@ -13,3 +13,6 @@ pub mod IdLemmas
 pub mod MatchedLemmas
 pub mod CountLemmas
 pub mod AcceptedLemmas
+pub mod WaitingLemmas
+pub mod QuestionLemmas
+pub mod TellingLemmas

@@ -12,3 +12,4 @@ pub mod Feeding
 pub mod Machine
 pub mod Taking
 pub mod Ranges
+pub mod Telling

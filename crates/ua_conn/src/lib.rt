@@ -1,16 +1,19 @@
 //! Both ends of a connection: what each owes to a stream of bytes, the server and the client, and what they say to each other.
 #![tactic(auto)]
 
+mod bytes;
 mod client;
 mod converse;
 pub mod laws;
+mod limits;
+mod moment;
 mod outcome;
 mod schedule;
 mod server;
 mod status;
 mod story;
 
-pub use client::{Answer, AnswerResult, AskFault, Calls, Client, ClientConfig, ClientFault, Feeds};
+pub use client::{Answer, AnswerResult, AskFault, Client, ClientConfig, ClientFault, Feeds};
 pub use converse::Converses;
 pub use outcome::{End, Outcome};
 pub use schedule::Step;

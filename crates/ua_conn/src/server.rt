@@ -14,6 +14,8 @@ mod conversation;
 mod fault;
 mod hearing;
 
+use crate::bytes::remove_front;
+use crate::moment::moment_of;
 use crate::outcome::End;
 use crate::server::connection::Connection;
 use crate::server::hearing::hear;
@@ -50,25 +52,6 @@ pub struct Fed {
     pub requests: Vec<Request>,
     /// How the connection ended with it: [`End::Closed`] or [`End::Refused`], or not at all.
     pub end: Option<End>,
-}
-
-fn remove_front(bytes: &mut Vec<u8>, n: usize)
-    requires { n ≤ vec_len bytes.old }
-    ensures { bytes.new.items ≡ drop n bytes.old.items }
-{
-    if n > 0 {
-        let len = bytes.len();
-        bytes.rotate_left(n);
-        bytes.truncate(len - n);
-    }
-}
-
-/// A clock's moment, where one before 0 counts as 0.
-fn moment_of(now: i64) -> u64
-    ensures moment { result ≡ counted now }
-    ensures clock { result < 2 ^ 63 }
-{
-    if now < 0 { 0 } else { now as u64 }
 }
 
 /// The server's end of one connection.

@@ -160,7 +160,7 @@ along flight a (Told now act ∷ log) h =
 
 -- ---- bytes come
 
-came_gained : (flight : InFlight) (a : Asker) (log : Log) (x : Piece) → 1 ≤ a.first_sequence → IsLog flight a log → fault_in a log ≡ None → ClientGains a log (Came x) (client_gain a (client_held a log) (Came x))
+pub came_gained : (flight : InFlight) (a : Asker) (log : Log) (x : Piece) → 1 ≤ a.first_sequence → IsLog flight a log → fault_in a log ≡ None → ClientGains a log (Came x) (client_gain a (client_held a log) (Came x))
 unfolding client_held client_gain
 came_gained flight a log x first is fine =
     let v = stream_of log in
@@ -238,7 +238,7 @@ due_with_one flight a cmds v c h fresh_id =
     (let accepted : ask_fault flight a cmds v Renew ≡ None = ap (ask_fault flight a cmds v) (sym e) ∙ h in
     (all_no ((is_some (client_reading_of a cmds v).fault, Ended) ∷ (not (standing cmds P).channel_open, NotOpen) ∷ renewing_rows flight (standing cmds P)) accepted).1.1.0))
 
-told_gained : (flight : InFlight) (a : Asker) (log : Log) (now : ℕ) (act : Act) → 1 ≤ a.first_sequence → IsLog flight a (Told now act ∷ log) → fault_in a log ≡ None → ClientGains a log (Told now act) (client_gain a (client_held a log) (Told now act))
+pub told_gained : (flight : InFlight) (a : Asker) (log : Log) (now : ℕ) (act : Act) → 1 ≤ a.first_sequence → IsLog flight a (Told now act ∷ log) → fault_in a log ≡ None → ClientGains a log (Told now act) (client_gain a (client_held a log) (Told now act))
 unfolding client_held client_gain
 told_gained flight a log now act first is fine =
     let v = stream_of log in

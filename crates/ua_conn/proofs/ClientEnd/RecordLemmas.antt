@@ -76,7 +76,7 @@ all_opens n end (c ∷ cmds) lt h test =
     of_one Close = refl
 
 -- the request of an id, among those that wait
-under_same : (id : ℕ) (xs : List Asked) → waiting_under id (map (λ a. (a.id, a.request)) xs) ≡ request_under id xs
+pub under_same : (id : ℕ) (xs : List Asked) → waiting_under id (map (λ a. (a.id, a.request)) xs) ≡ request_under id xs
 under_same id [] = refl
 under_same id (x ∷ xs) = by (x.id == id) (under_same id xs)
   where

@@ -67,7 +67,7 @@ pub parts_said : {T E : Type 0} (r : Result T E) (old new : List ℕ) (channel t
 parts_said r old new channel token n id agreed body over e =
     e ∙ ap (λ b. if is_ok r then old ++ message_frames channel token n 0 (cond b (aborted id 0x80B90000 ∷ []) (fill id body (part_size agreed))) else old) (sym over)
 
-fill_count : (id k : ℕ) (body : List ℕ) → length (fill id body k) ≡ part_count (length body) k
+pub fill_count : (id k : ℕ) (body : List ℕ) → length (fill id body k) ≡ part_count (length body) k
 unfolding fill
 fill_count id k body = length-map-range_with_len _ 0 (part_count (length body) k)
 

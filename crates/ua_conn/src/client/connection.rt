@@ -1,10 +1,11 @@
 //! What a client keeps of one connection.
 
-ghost use Rattle.std.specs.Prelude.{◌≡◌, ◌≤◌, IfOk};
-ghost use Rattle.ua_conn.specs.client.Asker.{Asker};
-ghost use Rattle.ua_conn.specs.client.Held.{client_held};
-ghost use Rattle.ua_conn.specs.client.Machine.{awaiting_of};
+ghost use Rattle.std.specs.Prelude.{◌≡◌, ◌≤◌, ◌<◌, ◌^◌, [], Some, true, max, length, is_some, slice_get, option_map, IfOk};
+ghost use Rattle.ua_channel.specs.ClientChannel.{renewal_due};
+ghost use Rattle.ua_channel.specs.Token.{newest_id};
 ghost use Rattle.ua_conn.specs.BothEnds.{IsConfig};
+ghost use Rattle.ua_conn.specs.client.Asking.{has_token_of};
+ghost use Rattle.ua_conn.specs.client.Past.{client_known};
 
 use crate::client::config::ClientConfig;
 use crate::client::pending::Pending;
@@ -13,6 +14,7 @@ use std::marker::Model;
 use ua_channel::ClientChannel;
 use ua_chunk::{Assembly, Sequence};
 use ua_frame::Ack;
+use ua_service::Request;
 use ua_value::NoMemory;
 
 /// The id of the first open request.
@@ -54,8 +56,7 @@ impl Connection {
         requires config { IsConfig config }
         requires first_least { 1 ≤ first_sequence }
         requires first_most { first_sequence ≤ 4294966272 }
-        ensures { IfOk result (λ c. (a : Asker) → a.first_sequence ≡ first_sequence → let h = client_held a [] in
-            c ≡ record { config = config; waits = awaiting_of h; next = h.next; moment = 0 }) }
+        ensures { IfOk result (λ c. c ≡ record { config = config; waits = record { known = client_known []; pending = []; due = Some 1 }; next = first_sequence; moment = 0 }) }
     {
         let half = Assembly::with_capacity(alloc, config.max_message, config.max_chunks)?;
         Ok(Connection {
@@ -68,5 +69,50 @@ impl Connection {
             due: Some(FIRST_ID),
             next: Sequence::starting_at(first_sequence),
         })
+    }
+
+    /// Whether a token was granted.
+    pub(crate) fn has_token(&self) -> bool
+        ensures { result ≡ has_token_of self.now.waits.known }
+    {
+        self.channel.is_open()
+    }
+
+    /// The token that the client sends with, of those that were granted. OPC 10000-4, 5.6.2.1.
+    pub(crate) fn newest_token(&self) -> u32
+        requires { has_token_of self.now.waits.known ≡ true }
+        ensures { result ≡ newest_id self.now.waits.known.tokens }
+    {
+        self.channel.sending_token().unwrap()
+    }
+
+    /// Whether the newest token is to be renewed at the moment `now`. OPC 10000-6, 6.7.4.
+    pub(crate) fn renew_due(&self, now: u64) -> bool
+        requires stamp { now < 2 ^ 63 }
+        requires later { self.now.moment ≤ now }
+        ensures { result ≡ renewal_due self.now.waits.known.tokens now }
+    {
+        self.channel.renew_due(now as i64)
+    }
+
+    /// Whether an open request is pending.
+    pub(crate) fn is_renewing(&self) -> bool
+        ensures { result ≡ is_some self.now.waits.due }
+    {
+        self.due.is_some()
+    }
+
+    /// How many requests are pending.
+    pub(crate) fn pending_count(&self) -> usize
+        ensures { result ≡ length self.now.waits.pending }
+    {
+        self.pending.len()
+    }
+
+    /// The request at place `i`, from 0, of those that are pending, with its id.
+    pub(crate) fn pending_at(&self, i: usize) -> Option<(u32, &Request)>
+        ensures { option_map (λ p. (p.0, p.1.now)) result ≡ slice_get self.now.waits.pending i }
+    {
+        self.pending.at(i)
     }
 }

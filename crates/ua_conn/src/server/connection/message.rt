@@ -8,10 +8,11 @@ ghost use Rattle.ua_chunk.specs.NumberLaws.{IsNumber};
 ghost use Rattle.ua_chunk.specs.Written.{message_frames};
 ghost use Rattle.ua_conn.specs.server.Answers.{answer_body};
 ghost use Rattle.ua_conn.specs.server.Ranges.{IsBuffer};
-ghost use Rattle.ua_conn.specs.server.Replies.{is_over as passes, is_over_limits, answer_parts};
+ghost use Rattle.ua_conn.specs.server.Replies.{is_over_limits, answer_parts};
 ghost use Rattle.ua_conn.specs.server.Effects.{message_effect, Does, Judges};
 ghost use Rattle.ua_conn.specs.server.Parts.{gathered_rows, Gathers};
 
+use crate::limits::{CHUNK_HEADER, is_over};
 use crate::server::agreed::Agreed;
 use crate::server::answers::answer_body;
 use crate::server::connection::Connection;
@@ -24,9 +25,6 @@ use ua_disco::Settings;
 use ua_frame::{Frame, Kind};
 use ua_service::{Request, read_request};
 use ua_value::NoMemory;
-
-/// Bytes of a chunk's header and numbers.
-const CHUNK_HEADER: u32 = 24;
 
 /// Puts a part to those before it. The result is the request that it makes whole, if any.
 fn gather(alloc: Global, half: &mut Assembly, chunk: &Chunk) -> Result<Option<Request>, Fault>
@@ -44,13 +42,6 @@ fn gather(alloc: Global, half: &mut Assembly, chunk: &Chunk) -> Result<Option<Re
     let read = read_request(alloc, half.body());
     half.clear();
     Ok(Some(read?))
-}
-
-/// Whether a limit of the Hello, of which 0 is none, is passed.
-fn is_over(limit: u32, n: u64) -> bool
-    ensures { result ≡ passes limit n }
-{
-    limit != 0 && n > u64::from(limit)
 }
 
 /// Whether an answer with this body is larger than the client takes. OPC 10000-6, 7.1.2.3.

@@ -1,0 +1,279 @@
+//! Requests that a client sends, and the reasons against a command.
+
+ghost use Rattle.std.specs.Prelude.{◌≡◌, ◌≤◌, ◌++◌, true, not, is_ok, None, Some, length, if◌then◌else◌, IfOk, OnOk, IfErr, OnErr};
+ghost use Rattle.ua_frame.specs.Streams.{moment_of as counted};
+ghost use Rattle.ua_chunk.specs.Cut.{part_count, fill};
+ghost use Rattle.ua_chunk.specs.Numbers.{number_after};
+ghost use Rattle.ua_chunk.specs.Written.{message_frames};
+ghost use Rattle.ua_channel.specs.Token.{newest_id};
+ghost use Rattle.ua_service.specs.Requests.{canon_request};
+ghost use Rattle.ua_conn.specs.client.Asking.{in_flight, greatest_part, has_token_of, is_too_large as passes_limits};
+ghost use Rattle.ua_conn.specs.client.Commands as commands;
+ghost use Rattle.ua_conn.specs.client.Held.{standing_of};
+ghost use Rattle.ua_conn.specs.client.Machine.{waiting_under};
+ghost use Rattle.ua_conn.specs.client.Feeding.{AcceptsAll, RefusedBy};
+ghost use Rattle.ua_conn.specs.client.Telling.{against, waits_for, waiting_to};
+
+use crate::client::Client;
+use crate::client::ask_fault::AskFault;
+use crate::client::connection::Connection;
+use crate::limits::{CHUNK_HEADER, is_over};
+use crate::moment::later;
+use std::alloc::Global;
+use ua_chunk::{Head, Sequence, chunk_count, write_chunks};
+use ua_service::{Body, Request};
+use ua_value::NoMemory;
+
+/// How many requests may be pending.
+const MOST_PENDING: usize = 64;
+
+/// The last request id.
+const LAST_ID: u64 = 4_294_967_295;
+
+/// The body of a request. OPC 10000-6, 5.2.9.
+fn body_of(alloc: Global, request: &Request) -> Result<Vec<u8>, NoMemory>
+    ensures { IfOk result (λ body. body.items ≡ canon_request request.now) }
+{
+    let mut body = Vec::new(alloc);
+    request.write_body(&mut body)?;
+    Ok(body)
+}
+
+/// Says a request in parts. After `NoMemory` nothing has changed. OPC 10000-6, 6.7.2.
+fn say_request(
+    alloc: Global,
+    head: &Head,
+    request: &Request,
+    part_limit: u32,
+    next: &mut Sequence,
+    out: &mut Vec<u8>,
+) -> Result<(), NoMemory>
+    requires some { 1 ≤ part_limit }
+    requires most { part_limit ≤ 1048552 }
+    ensures said { out.new.items ≡ (if is_ok result
+        then out.old.items ++ message_frames head.now.channel head.now.token next.old 0 (fill head.now.request_id (canon_request request.now) part_limit)
+        else out.old.items) }
+    ensures numbered { next.new ≡ (if is_ok result then number_after next.old (part_count (length (canon_request request.now)) part_limit) else next.old) }
+{
+    let body = body_of(alloc, request)?;
+    write_chunks(&body, head, part_limit, next, out)
+}
+
+impl Connection {
+    /// Bytes of the longest part of a request that the server takes in one frame; 0 before the Acknowledge.
+    fn greatest_part(&self) -> u32
+        ensures part { result ≡ greatest_part self.now.waits.known.ack }
+        ensures most { result ≤ 1048552 }
+    {
+        match &self.ack {
+            None => 0,
+            Some(ack) => ack.receive - CHUNK_HEADER,
+        }
+    }
+
+    /// Whether a request has more bytes, or more parts, than the server takes. OPC 10000-6, 7.1.2.4.
+    fn is_too_large(&self, request: &Request, part_limit: u32) -> bool
+        requires { 1 ≤ part_limit }
+        ensures { result ≡ passes_limits self.now.waits.known.ack part_limit request.now }
+    {
+        match &self.ack {
+            None => false,
+            Some(ack) => {
+                let len = request.body_len();
+                is_over(ack.max_message, len)
+                    || is_over(ack.max_chunks, chunk_count(len, part_limit))
+            }
+        }
+    }
+
+    /// Asks a request under a new id, in parts of `part_limit` bytes. The request comes back where memory runs out, and
+    /// nothing has changed then. OPC 10000-6, 6.7.2.
+    fn ask(
+        &mut self,
+        id: u32,
+        request: Request,
+        part_limit: u32,
+        out: &mut Vec<u8>,
+    ) -> Result<(), Request>
+        requires open { has_token_of self.old.waits.known ≡ true }
+        requires some { 1 ≤ part_limit }
+        requires most { part_limit ≤ 1048552 }
+        ensures said { OnOk result (out.new.items ≡ out.old.items
+            ++ message_frames self.old.waits.known.channel (newest_id self.old.waits.known.tokens) self.old.next 0 (fill id (canon_request request) part_limit)) }
+        ensures after { OnOk result (waiting_under id self.old.waits.pending ≡ None →
+            self.new ≡ waiting_to self.old (waits_for self.old.waits id request) (number_after self.old.next (part_count (length (canon_request request)) part_limit))) }
+        ensures back { IfErr result (λ back. back ≡ request) }
+        ensures unchanged { OnErr result (self.new ≡ self.old) }
+        ensures unsaid { OnErr result (out.new.items ≡ out.old.items) }
+        ensures moment { self.new.moment ≡ self.old.moment }
+    {
+        let Ok(()) = self.pending.reserve() else {
+            return Err(request);
+        };
+        let head = Head {
+            channel: self.channel.id(),
+            token: self.newest_token(),
+            request_id: id,
+        };
+        match say_request(self.alloc, &head, &request, part_limit, &mut self.next, out) {
+            Ok(()) => {
+                self.pending.add(id, request);
+                Ok(())
+            }
+            Err(_) => Err(request),
+        }
+    }
+}
+
+impl Client {
+    /// The first reason against any command.
+    fn against_any(&self) -> Option<AskFault>
+        ensures { result ≡ (if self.now.failed then Some AskFault.Ended else (if not (standing_of self.now.held).channel_open then Some AskFault.NotOpen else None)) }
+    {
+        if self.failed {
+            Some(AskFault::Ended)
+        } else if self.closed || !self.connection.has_token() {
+            Some(AskFault::NotOpen)
+        } else {
+            None
+        }
+    }
+
+    /// The first reason against asking the request, in parts of `part_limit` bytes.
+    fn against_asking(&self, request: &Request, part_limit: u32) -> Option<AskFault>
+        ensures reason { result ≡ against self.now (commands.Ask request.now part_limit) }
+        ensures most { result ≡ None → part_limit ≤ 1048552 }
+    {
+        let reason = self.against_any();
+        if reason.is_some() {
+            return reason;
+        }
+        if part_limit == 0 || part_limit > self.connection.greatest_part() {
+            return Some(AskFault::BadPartLimit);
+        }
+        if self.connection.pending_count() >= MOST_PENDING {
+            return Some(AskFault::TooManyPending);
+        }
+        if self.next_id > LAST_ID {
+            return Some(AskFault::IdsSpent);
+        }
+        if self.connection.is_too_large(request, part_limit) {
+            return Some(AskFault::TooLarge);
+        }
+        None
+    }
+
+    /// The first reason against a renewal.
+    fn against_renewing(&self) -> Option<AskFault>
+        ensures { result ≡ against self.now commands.Renew }
+    {
+        let reason = self.against_any();
+        if reason.is_some() {
+            return reason;
+        }
+        if self.connection.is_renewing() {
+            return Some(AskFault::RenewPending);
+        }
+        if self.next_id > LAST_ID {
+            return Some(AskFault::IdsSpent);
+        }
+        None
+    }
+
+    /// The first reason against closing.
+    fn against_closing(&self) -> Option<AskFault>
+        ensures { result ≡ against self.now commands.Close }
+    {
+        let reason = self.against_any();
+        if reason.is_some() {
+            return reason;
+        }
+        if self.connection.is_renewing() {
+            return Some(AskFault::RenewPending);
+        }
+        if self.connection.pending_count() > 0 {
+            return Some(AskFault::StillPending);
+        }
+        if self.next_id > LAST_ID {
+            return Some(AskFault::IdsSpent);
+        }
+        None
+    }
+
+    /// Asks the request, in parts of `part_limit` bytes, at the moment `now`. The result is its request id, and the
+    /// output gains its frames. The header is sent as it is.
+    ///
+    /// `Err` hands the request back, with the first reason that holds, in this order: `Ended`, `NotOpen`,
+    /// `BadPartLimit` (a part has at least one byte, and at most 24 less than the longest frame that the server takes),
+    /// `TooManyPending` (64 requests), `IdsSpent`, `TooLarge`; or with `NoMemory`, which may come before another. The
+    /// client is as it was. OPC 10000-6, 6.7.2 and 7.1.2.4.
+    pub fn ask(
+        &mut self,
+        now: i64,
+        request: Request,
+        part_limit: u32,
+    ) -> Result<u32, (AskFault, Request)>
+        ensures accepted { IfOk result (λ id. AcceptsAll in_flight self.old (counted now) (commands.Ask request part_limit) self.new) }
+        ensures id { IfOk result (λ id. id ≡ self.old.held.next_id) }
+        ensures refused { IfErr result (λ back. RefusedBy in_flight self.old (commands.Ask request part_limit) back.0) }
+        ensures back { IfErr result (λ back. back.1 ≡ request) }
+        ensures unchanged { OnErr result (self.new ≡ self.old) }
+    {
+        if let Some(fault) = self.against_asking(&request, part_limit) {
+            return Err((fault, request));
+        }
+        let id = self.next_id as u32;
+        match self
+            .connection
+            .ask(id, request, part_limit, &mut self.output)
+        {
+            Err(request) => Err((AskFault::NoMemory, request)),
+            Ok(()) => {
+                self.next_id += 1;
+                self.moment = later(self.moment, now);
+                Ok(id)
+            }
+        }
+    }
+
+    /// Asks for a new token, at the moment `now`. The output gains the open request.
+    ///
+    /// `Err` is the first reason that holds, in this order: `Ended`, `NotOpen`, `RenewPending`, `IdsSpent`; or
+    /// `NoMemory`. The client is as it was. OPC 10000-4, 5.6.2.
+    pub fn renew(&mut self, now: i64) -> Result<(), AskFault>
+        ensures accepted { IfOk result (λ _. AcceptsAll in_flight self.old (counted now) commands.Renew self.new) }
+        ensures refused { IfErr result (λ fault. RefusedBy in_flight self.old commands.Renew fault) }
+        ensures unchanged { OnErr result (self.new ≡ self.old) }
+    {
+        if let Some(fault) = self.against_renewing() {
+            return Err(fault);
+        }
+        let now = later(self.moment, now);
+        let id = self.next_id as u32;
+        self.connection.renew(id, now, &mut self.output)?;
+        self.next_id += 1;
+        self.moment = now;
+        Ok(())
+    }
+
+    /// Closes the channel, at the moment `now`. The output gains the close request, which has no answer.
+    ///
+    /// `Err` is the first reason that holds, in this order: `Ended`, `NotOpen`, `RenewPending`, `StillPending`,
+    /// `IdsSpent`; or `NoMemory`. The client is as it was. OPC 10000-4, 5.6.3.
+    pub fn close(&mut self, now: i64) -> Result<(), AskFault>
+        ensures accepted { IfOk result (λ _. AcceptsAll in_flight self.old (counted now) commands.Close self.new) }
+        ensures refused { IfErr result (λ fault. RefusedBy in_flight self.old commands.Close fault) }
+        ensures unchanged { OnErr result (self.new ≡ self.old) }
+    {
+        if let Some(fault) = self.against_closing() {
+            return Err(fault);
+        }
+        let now = later(self.moment, now);
+        let id = self.next_id as u32;
+        self.connection.close(id, now, &mut self.output)?;
+        self.closed = true;
+        self.next_id += 1;
+        self.moment = now;
+        Ok(())
+    }
+}

@@ -1,0 +1,151 @@
+//! What a client says for itself.
+
+ghost use Rattle.std.specs.Prelude.{◌≡◌, ◌<◌, ◌^◌, ◌++◌, true, pos, is_ok, if◌then◌else◌, IfOk};
+ghost use Rattle.ua_value.specs.Node.{two_byte};
+ghost use Rattle.ua_chunk.specs.Numbers.{number_after};
+ghost use Rattle.ua_chunk.specs.Written.{open_frame, close_frame};
+ghost use Rattle.ua_channel.specs.Token.{newest_id};
+ghost use Rattle.ua_conn.specs.client.Asking.{has_token_of};
+ghost use Rattle.ua_conn.specs.client.Questions.{request_header_at, open_asked_body, close_asked_body};
+ghost use Rattle.ua_conn.specs.client.Telling.{type_of, numbered_to, waiting_to, waits_open};
+
+use crate::client::connection::Connection;
+use std::alloc::Global;
+use ua_chunk::{write_close, write_open};
+use ua_service::{CloseRequest, OpenRequest, RequestHeader, body_of};
+use ua_value::{DateTime, Identifier, NoMemory, NodeId, UaBytes, UaString};
+use ua_variant::{ExtensionBody, ExtensionObject};
+
+/// The version of the connection protocol that is spoken.
+pub(crate) const VERSION: u32 = 0;
+
+/// The mode without security.
+const NO_SECURITY: i32 = 1;
+
+/// What an open request asks for. OPC 10000-4, 5.6.2.2, requestType.
+#[derive(Clone, Copy)]
+pub(crate) enum Asks {
+    /// A first token.
+    Issue,
+    /// A further one.
+    Renew,
+}
+
+/// The null id.
+fn no_id() -> NodeId
+    ensures { result ≡ two_byte 0 }
+{
+    NodeId {
+        namespace: 0,
+        identifier: Identifier::Numeric(0),
+    }
+}
+
+/// The header of a request: the moment, its handle, and nothing else. OPC 10000-4, 7.33.
+fn request_header(now: u64, handle: u32) -> RequestHeader
+    requires { now < 2 ^ 63 }
+    ensures { result ≡ request_header_at (pos now) handle }
+{
+    RequestHeader {
+        authentication_token: no_id(),
+        timestamp: DateTime(now as i64),
+        request_handle: handle,
+        return_diagnostics: 0,
+        audit_entry_id: UaString::null(),
+        timeout_hint: 0,
+        additional_header: ExtensionObject {
+            type_id: no_id(),
+            body: ExtensionBody::None,
+        },
+    }
+}
+
+/// The number of a request's type.
+fn request_type(asks: Asks) -> i32
+    ensures { result ≡ pos (type_of asks) }
+{
+    match asks {
+        Asks::Issue => 0,
+        Asks::Renew => 1,
+    }
+}
+
+/// The body of an open request. OPC 10000-4, 5.6.2.
+#[tactic(auto, unfolding(crate::specs::client::Questions::open_asked_body))]
+fn open_asked_body(
+    alloc: Global,
+    now: u64,
+    id: u32,
+    asks: Asks,
+    lifetime: u32,
+) -> Result<Vec<u8>, NoMemory>
+    requires { now < 2 ^ 63 }
+    ensures { IfOk result (λ body. body.items ≡ open_asked_body now id (type_of asks) lifetime) }
+{
+    let request = OpenRequest {
+        header: request_header(now, id),
+        client_protocol_version: VERSION,
+        request_type: request_type(asks),
+        security_mode: NO_SECURITY,
+        client_nonce: UaBytes::null(),
+        requested_lifetime: lifetime,
+    };
+    body_of(alloc, request)
+}
+
+/// The body of a close request. OPC 10000-4, 5.6.3.
+#[tactic(auto, unfolding(crate::specs::client::Questions::close_asked_body))]
+fn close_asked_body(alloc: Global, now: u64, id: u32) -> Result<Vec<u8>, NoMemory>
+    requires { now < 2 ^ 63 }
+    ensures { IfOk result (λ body. body.items ≡ close_asked_body now id) }
+{
+    let request = CloseRequest {
+        header: request_header(now, id),
+    };
+    body_of(alloc, request)
+}
+
+impl Connection {
+    /// Asks for a token at the moment `now`, over the channel with this id. After `NoMemory` nothing has changed.
+    /// OPC 10000-4, 5.6.2.
+    pub(crate) fn say_open(
+        &mut self,
+        channel: u32,
+        id: u32,
+        asks: Asks,
+        now: u64,
+        out: &mut Vec<u8>,
+    ) -> Result<(), NoMemory>
+        requires { now < 2 ^ 63 }
+        ensures said { out.new.items ≡ (if is_ok result then out.old.items ++ open_frame channel self.old.next id (open_asked_body now id (type_of asks) self.old.config.lifetime) else out.old.items) }
+        ensures after { self.new ≡ (if is_ok result then numbered_to self.old (number_after self.old.next 1) else self.old) }
+    {
+        let body = open_asked_body(self.alloc, now, id, asks, self.config.lifetime)?;
+        write_open(channel, id, &body, &mut self.next, out)
+    }
+
+    /// Asks for a further token at the moment `now`. After `NoMemory` nothing has changed. OPC 10000-4, 5.6.2.
+    pub(crate) fn renew(&mut self, id: u32, now: u64, out: &mut Vec<u8>) -> Result<(), NoMemory>
+        requires { now < 2 ^ 63 }
+        ensures said { out.new.items ≡ (if is_ok result then out.old.items ++ open_frame self.old.waits.known.channel self.old.next id (open_asked_body now id 1 self.old.config.lifetime) else out.old.items) }
+        ensures after { self.new ≡ (if is_ok result then waiting_to self.old (waits_open self.old.waits id) (number_after self.old.next 1) else self.old) }
+    {
+        let channel = self.channel.id();
+        self.say_open(channel, id, Asks::Renew, now, out)?;
+        self.due = Some(id);
+        Ok(())
+    }
+
+    /// Closes the channel at the moment `now`. After `NoMemory` nothing has changed. OPC 10000-4, 5.6.3.
+    pub(crate) fn close(&mut self, id: u32, now: u64, out: &mut Vec<u8>) -> Result<(), NoMemory>
+        requires open { has_token_of self.old.waits.known ≡ true }
+        requires stamp { now < 2 ^ 63 }
+        ensures said { out.new.items ≡ (if is_ok result then out.old.items ++ close_frame self.old.waits.known.channel (newest_id self.old.waits.known.tokens) self.old.next id (close_asked_body now id) else out.old.items) }
+        ensures after { self.new ≡ (if is_ok result then numbered_to self.old (number_after self.old.next 1) else self.old) }
+    {
+        let body = close_asked_body(self.alloc, now, id)?;
+        let channel = self.channel.id();
+        let token = self.newest_token();
+        write_close(channel, token, id, &body, &mut self.next, out)
+    }
+}

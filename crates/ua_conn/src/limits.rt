@@ -1,0 +1,14 @@
+//! Limits on messages.
+
+ghost use Rattle.std.specs.Prelude.{◌≡◌};
+ghost use Rattle.ua_conn.specs.server.Replies.{is_over as passes};
+
+/// Bytes of a chunk's header and numbers.
+pub(crate) const CHUNK_HEADER: u32 = 24;
+
+/// Whether a limit of a Hello or an Acknowledge, of which 0 is none, is passed. OPC 10000-6, 7.1.2.3 and 7.1.2.4.
+pub(crate) fn is_over(limit: u32, n: u64) -> bool
+    ensures { result ≡ passes limit n }
+{
+    limit != 0 && n > u64::from(limit)
+}
