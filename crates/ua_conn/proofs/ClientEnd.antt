@@ -16,3 +16,10 @@ pub mod AcceptedLemmas
 pub mod WaitingLemmas
 pub mod QuestionLemmas
 pub mod TellingLemmas
+pub mod TypeLemmas
+pub mod TakeLemmas
+pub mod FeedLemmas
+pub mod PieceLemmas
+pub mod EffectLemmas
+pub mod AnswerLemmas
+pub mod FrontLemmas

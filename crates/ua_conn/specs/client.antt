@@ -13,3 +13,7 @@ pub mod Machine
 pub mod Taking
 pub mod Ranges
 pub mod Telling
+pub mod Effects
+pub mod Hearing
+pub mod Unread
+pub mod Parts
