@@ -17,3 +17,10 @@ pub mod FirstFaultLemmas
 pub mod WaitingLemmas
 pub mod QuestionLemmas
 pub mod TellingLemmas
+pub mod TypeLemmas
+pub mod TakeLemmas
+pub mod FeedLemmas
+pub mod PieceLemmas
+pub mod EffectLemmas
+pub mod AnswerLemmas
+pub mod FrontLemmas

@@ -14,3 +14,7 @@ pub mod FirstFault
 pub mod Taking
 pub mod Ranges
 pub mod Telling
+pub mod Effects
+pub mod Hearing
+pub mod Unread
+pub mod Parts

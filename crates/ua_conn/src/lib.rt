@@ -3,6 +3,7 @@
 
 mod bytes;
 mod client;
+mod content;
 mod converse;
 pub mod laws;
 mod limits;
@@ -13,7 +14,7 @@ mod server;
 mod status;
 mod story;
 
-pub use client::{Answer, AnswerResult, AskFault, Client, ClientConfig, ClientFault, Feeds};
+pub use client::{Answer, AnswerResult, AskFault, Client, ClientConfig, ClientFault};
 pub use converse::Converses;
 pub use outcome::{End, Outcome};
 pub use schedule::Step;

@@ -1,5 +1,5 @@
 -- The frames before a secure channel: HEL, ACK and ERR. OPC 10000-6, 7.1.2.3 to 7.1.2.5.
-use Rattle.std.specs.Prelude.{ℕ, Bool, true, false, ◌||◌, nat_lt, min, List, [], ◌∷◌, length, Option, Some, None, Result, Ok, Err, refl}
+use Rattle.std.specs.Prelude.{ℕ, Bool, true, false, ◌&&◌, ◌||◌, nat_lt, nat_le, min, List, [], ◌∷◌, length, Option, Some, None, Result, Ok, Err, refl}
 use Rattle.std.specs.Int.{w32}
 use Rattle.ua_value.specs.Format.{Format, IsLawful}
 use Rattle.ua_value.specs.Sequence.{by, pair}
@@ -132,3 +132,10 @@ answered (Some status) a = Err status
 
 abbrev pub hello_answer : Limits → Hello → Result Ack ℕ
 hello_answer limits h = answered (first_row (hello_rows (Some h))) (negotiated limits h)
+
+-- A client takes an Acknowledge with two sizes of at least 8192 bytes, and at most those of its Hello. OPC 10000-6, 7.1.2.4.
+abbrev pub is_size : ℕ → ℕ → Bool
+is_size most n = nat_le 8192 n && nat_le n most
+
+abbrev pub is_acceptable : Hello → Ack → Bool
+is_acceptable h ack = is_size h.send ack.receive && is_size h.receive ack.send

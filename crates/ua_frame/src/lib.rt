@@ -20,4 +20,4 @@ pub use frame::{Frame, frame_at};
 pub use hello::Hello;
 pub use kind::Kind;
 pub use limits::Limits;
-pub use negotiation::negotiate;
+pub use negotiation::{acceptable, negotiate};

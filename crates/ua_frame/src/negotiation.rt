@@ -2,7 +2,7 @@
 
 ghost use Rattle.std.specs.Prelude.{◌≡◌, None, Some, IfOk, IfErr};
 ghost use Rattle.ua_frame.specs.Rows.{first_row};
-ghost use Rattle.ua_frame.specs.Hello.{is_long as long_url, hello_rows, negotiated, hello_answer};
+ghost use Rattle.ua_frame.specs.Hello.{is_long as long_url, hello_rows, negotiated, hello_answer, is_size, is_acceptable};
 
 use crate::acknowledge::Ack;
 use crate::hello::Hello;
@@ -53,4 +53,20 @@ pub fn negotiate(hello: &Hello, limits: &Limits) -> Result<Ack, u32>
         max_message: limits.max_message,
         max_chunks: limits.max_chunks,
     })
+}
+
+/// Whether a buffer of `size` bytes is large enough for any end, and no larger than `most`.
+fn is_size(most: u32, size: u32) -> bool
+    ensures { result ≡ is_size most size }
+{
+    SMALLEST_BUFFER <= size && size <= most
+}
+
+/// Whether a client goes on with what a server answered to its Hello: both sizes are at least 8192 bytes, and at most
+/// those that the Hello named. Any version is acceptable, and so are any limits on requests. The call takes no memory.
+/// OPC 10000-6, 7.1.2.4.
+pub fn acceptable(hello: &Hello, ack: &Ack) -> bool
+    ensures { result ≡ is_acceptable hello.now ack.now }
+{
+    is_size(hello.send, ack.receive) && is_size(hello.receive, ack.send)
 }

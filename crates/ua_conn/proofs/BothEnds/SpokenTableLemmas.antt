@@ -4,7 +4,7 @@ use Rattle.std.specs.Prelude.{◌==◌, nat_le, option_map}
 use Rattle.std.proofs.lemmas.Bool.{eq-eqb, le-leb}
 use Rattle.ua_frame.specs.Layout.{Frame, fields_of}
 use Rattle.ua_frame.specs.HeaderRows.{flag_fits, header_fault}
-use Rattle.ua_frame.specs.Hello.{acknowledge_layout}
+use Rattle.ua_frame.specs.Hello.{acknowledge_layout, is_acceptable}
 use Rattle.ua_frame.specs.declared.kind.Kind.TheVariants as kinds
 use Rattle.ua_frame.specs.declared.acknowledge.Ack.{Ack}
 use Rattle.ua_chunk.specs.Layout.{Chunk, chunk_of, policy_none, abort_bytes}
@@ -26,13 +26,13 @@ use Rattle.ua_service.specs.ChannelMessages.{open_response_of}
 use Rattle.ua_service.specs.Responses.{response_of}
 use Rattle.ua_conn.specs.Past.{or_empty, open_in, carried, is_open, is_message, has_number, sequence_of}
 use Rattle.ua_conn.specs.client.Machine.{client_known_after}
-use Rattle.ua_conn.specs.client.Asker.{Asker}
+use Rattle.ua_conn.specs.client.Asker.{Asker, hello_by}
 use Rattle.ua_conn.specs.client.Reading.{result_by, answer_with, answer_at}
 use Rattle.ua_conn.specs.server.Replies.{aborted}
 use Rattle.ua_conn.specs.declared.client.answer.AnswerResult.TheVariants.{Response as Responds, Aborted}
 use Rattle.ua_conn.proofs.BothEnds.SpokenAnswerLemmas.{abort_arrives}
 use Rattle.ua_conn.specs.client.Past.{ClientKnown, client_channel, acknowledge_in, response_in, granted_by, channel_named}
-use Rattle.ua_conn.specs.client.Faults.{first_of, broken, or_fault, greatest_answer, is_awaited, is_acceptable, acknowledge_rows, opened_rows, response_rows, whole_rows, whole_response, fits, answer_rows, client_rows, client_fault_by}
+use Rattle.ua_conn.specs.client.Faults.{first_of, broken, or_fault, greatest_answer, is_awaited, acknowledge_rows, opened_rows, response_rows, whole_rows, whole_response, fits, answer_rows, client_rows, client_fault_by}
 use Rattle.ua_conn.specs.declared.client.fault.ClientFault.TheVariants.{ServerSaid, Broken}
 use Rattle.ua_conn.proofs.BothEnds.SpokenLemmas.{Spoken, Acknowledges, Opens, Tells, spell, parts_of, IsSized, IsFlagged, IsProper, size_by, spell_passes, IsRead, is_read}
 use Rattle.ua_conn.proofs.BothEnds.SpokenEffectLemmas.{opening_of, chunk_by}
@@ -53,7 +53,7 @@ heard_fault a k due wanted usable f x e short flag is within =
 abbrev pub unacknowledged : ClientKnown
 unacknowledged = record { ack = None; channel = 0; tokens = []; last = None; half = None }
 
-sizes_fit : (a : Asker) (ack : Ack) → 8192 ≤ ack.receive → ack.receive ≤ a.config.buffer → 8192 ≤ ack.send → ack.send ≤ a.config.buffer → is_acceptable a ack ≡ true
+sizes_fit : (a : Asker) (ack : Ack) → 8192 ≤ ack.receive → ack.receive ≤ a.config.buffer → 8192 ≤ ack.send → ack.send ≤ a.config.buffer → is_acceptable (hello_by a) ack ≡ true
 sizes_fit a ack p q r s =
     let one = le-leb 8192 ack.receive p in
     let two = le-leb ack.receive a.config.buffer q in

@@ -13,7 +13,7 @@ use Rattle.ua_frame.specs.declared.acknowledge.Ack.{Ack}
 use Rattle.ua_conn.specs.Past.{carried}
 use Rattle.ua_conn.specs.client.Past.{is_acknowledge, is_acknowledge_frame, acknowledge_in}
 use Rattle.ua_conn.specs.client.Machine.{or_ack, client_known_after}
-use Rattle.ua_conn.specs.client.Faults.{first_of, broken, or_fault, greatest_answer, is_awaited, is_acceptable, is_size, acknowledge_rows, client_rows, client_fault_by, token_usable}
+use Rattle.ua_conn.specs.client.Faults.{first_of, broken, or_fault, greatest_answer, is_awaited, acknowledge_rows, client_rows, client_fault_by, token_usable}
 use Rattle.ua_conn.specs.client.Reading.{ClientReading, client_fault_at, client_reading, client_fault}
 use Rattle.ua_conn.specs.client.Pending.{bytes_in, due_at, wanted_at}
 use Rattle.ua_conn.specs.client.Asking.{standing, asking_rows, greatest_part, is_too_large, ask_fault}
@@ -26,7 +26,7 @@ use Rattle.ua_conn.specs.declared.client.fault.ClientFault.TheVariants.{Broken}
 use Rattle.ua_conn.proofs.ClientEnd.KnownLemmas.{client_known_step}
 use Rattle.ua_frame.specs.Streams.{TimedByte, plain}
 use Rattle.ua_frame.specs.Layout.{Frame}
-use Rattle.ua_frame.specs.Hello.{is_long}
+use Rattle.ua_frame.specs.Hello.{is_long, is_acceptable, is_size}
 use Rattle.ua_frame.specs.Beginnings.{joined}
 use Rattle.ua_chunk.specs.Cut.{Part, fill}
 use Rattle.ua_chunk.specs.Numbers.{number_after}
@@ -37,7 +37,7 @@ use Rattle.ua_service.specs.ValueLaws.{open_request_length, close_request_length
 use Rattle.ua_disco.specs.Bounds.{IsLimits}
 use Rattle.ua_conn.specs.Past.{Past}
 use Rattle.ua_conn.specs.server.Feeding.{replies_of}
-use Rattle.ua_conn.specs.client.Asker.{Asker}
+use Rattle.ua_conn.specs.client.Asker.{Asker, hello_by}
 use Rattle.ua_conn.specs.client.Commands.{Act, Ask, Renew, Close, Command, Commands, next_id}
 use Rattle.ua_conn.specs.client.Past.{ClientKnown, client_known, acknowledge_frame_in}
 use Rattle.ua_conn.specs.client.Pending.{come_by}
@@ -183,7 +183,7 @@ both_false false c h = (refl, h)
 accepted_ack : (a : Asker) (o : Option Ack) → first_of (broken (acknowledge_rows a o)) ≡ None → IfSome o (λ ack. ack.receive ≤ a.config.buffer)
 accepted_ack a None h = tt
 accepted_ack a (Some ack) h =
-    let fine : is_acceptable a ack ≡ true = not_false (is_acceptable a ack) (row_false (not (is_acceptable a ack)) (Broken 0x80810000) [] h) in
+    let fine : is_acceptable (hello_by a) ack ≡ true = not_false (is_acceptable (hello_by a) ack) (row_false (not (is_acceptable (hello_by a) ack)) (Broken 0x80810000) [] h) in
     let sizes = and_parts (is_size a.config.buffer ack.receive) (is_size a.config.buffer ack.send) fine in
     let ends = and_parts (nat_le 8192 ack.receive) (nat_le ack.receive a.config.buffer) sizes.0 in
     leb-true ack.receive a.config.buffer ends.1

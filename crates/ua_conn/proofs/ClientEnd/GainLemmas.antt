@@ -23,7 +23,8 @@ use Rattle.ua_conn.specs.client.Reading.{ClientReading, client_fault_at, client_
 use Rattle.ua_conn.specs.client.Sending.{Sent, sent_bytes, has_place, more_sent, sent_after, sent_all, greets, opens, act_says, commands_say, sent_by}
 use Rattle.ua_conn.specs.client.Asking.{InFlight, standing, renewing_rows, ask_fault}
 use Rattle.ua_conn.specs.client.Held.{Came, Told, Log, latest_of, stream_of, commands_of, fault_in, IsLog, waiting_in, client_held, ClientGains, ClientByRecord}
-use Rattle.ua_conn.specs.client.Machine.{client_run, number_sent, sent_next, next_sent, more_waiting, due_with, client_gain}
+use Rattle.ua_conn.specs.client.Feeding.{sent_of}
+use Rattle.ua_conn.specs.client.Machine.{awaiting_of, client_run, client_run_on, number_sent, sent_next, next_sent, more_waiting, due_with, client_gain}
 use Rattle.ua_conn.specs.declared.client.fault.ClientFault.{ClientFault}
 use Rattle.ua_conn.specs.declared.client.ask_fault.AskFault.TheVariants.{Ended, NotOpen}
 use Rattle.ua_conn.proofs.ClientEnd.PlaceLemmas.{AllBehind, bytes_of_frames, frames_within, later_frames}
@@ -31,7 +32,7 @@ use Rattle.ua_conn.proofs.ClientEnd.ReadingLemmas.{stands, reads_more, reads_sam
 use Rattle.ua_conn.proofs.BothEnds.FaithfulLemmas.{AllSeen, IsStarted, untold, acknowledged, seen_later, seen_one, started_later, sent_append, accepted_acked}
 use Rattle.ua_conn.proofs.ClientEnd.FreshLemmas.{all_no, fresh}
 use Rattle.ua_conn.proofs.ClientEnd.RecordLemmas.{awaiting}
-use Rattle.ua_conn.proofs.ClientEnd.RunLemmas.{AtMostOne, one_more, client_run_is}
+use Rattle.ua_conn.proofs.ClientEnd.RunLemmas.{AtMostOne, one_more, IsClientRun, client_run_is}
 
 -- ---- numbers of what is sent
 
@@ -42,7 +43,7 @@ by_test first false n h = refl
 one_number : (first n : ℕ) (x : Sent) → 1 ≤ first → number_after first (more_sent n x) ≡ number_sent (number_after first n) x
 one_number first n x h = by_test first (has_place x) n h
 
-sent_is_next : (first n : ℕ) (xs : List Sent) → 1 ≤ first → sent_all first n xs ≡ sent_next (number_after first n) xs
+pub sent_is_next : (first n : ℕ) (xs : List Sent) → 1 ≤ first → sent_all first n xs ≡ sent_next (number_after first n) xs
 sent_is_next first n [] h = refl
 sent_is_next first n (x ∷ xs) h =
     ap (λ b. sent_bytes (number_after first n) x ++ b) (sent_is_next first (more_sent n x) xs h ∙ ap (λ k. sent_next k xs) (one_number first n x h))
@@ -160,33 +161,68 @@ along flight a (Told now act ∷ log) h =
 
 -- ---- bytes come
 
-pub came_gained : (flight : InFlight) (a : Asker) (log : Log) (x : Piece) → 1 ≤ a.first_sequence → IsLog flight a log → fault_in a log ≡ None → ClientGains a log (Came x) (client_gain a (client_held a log) (Came x))
-unfolding client_held client_gain
-came_gained flight a log x first is fine =
+-- the frames and the rest that the bytes left and one more piece have
+abbrev came_frames : Log → Piece → List Frame
+came_frames log x = frames_of (map (at (max (latest_of log) x.moment)) (plain (rest_of (stream_of log)) ++ x.bytes))
+
+abbrev came_rest : Log → Piece → List ℕ
+came_rest log x = plain (rest_of (map (at (max (latest_of log) x.moment)) (plain (rest_of (stream_of log)) ++ x.bytes)))
+
+abbrev past_of : Asker → Log → Past
+past_of a log = (client_reading_of a (commands_of log) (stream_of log)).past
+
+-- one more piece is read behind the frames that stand
+record ReadsPiece (a : Asker) (log : Log) (x : Piece) (R : ClientReading) : Type 0 where
+  reading : client_reading_of a (commands_of log) (stream_of (Came x ∷ log)) ≡ R
+  run : IsClientRun a (commands_of log) (past_of a log) (came_frames log x) R (client_run a (awaiting (commands_of log) (past_of a log)) (came_frames log x) (came_rest log x))
+  rest : plain (rest_of (stream_of (Came x ∷ log))) ≡ came_rest log x
+
+reads_piece : (flight : InFlight) (a : Asker) (log : Log) (x : Piece) → IsLog flight a log → fault_in a log ≡ None →
+    ReadsPiece a log x (client_reading a (commands_of log) (past_of a log) (came_frames log x) (came_rest log x))
+reads_piece flight a log x is fine =
     let v = stream_of log in
     let cmds = commands_of log in
     let now = max (latest_of log) x.moment in
     let t = map (at now) x.bytes in
-    let P = (client_reading_of a cmds v).past in
-    let left = plain (rest_of v) ++ x.bytes in
-    let gs = frames_of (map (at now) left) in
-    let rest = plain (rest_of (map (at now) left)) in
+    let P = past_of a log in
+    let gs = came_frames log x in
+    let rest = came_rest log x in
     let i = along flight a log is in
     let k = rest_retimed (rest_of v) now x.bytes (framed v).partial in
     let m = frames_more v t in
     let goes = reading_goes a cmds [] (frames_of v) gs (plain (rest_of v)) rest fine in
     let behind : AllBehind (length v) P gs = subst (λ (past : Past). AllBehind (length v) past gs) (sym goes.0) (subst (λ (fs : List Frame). AllBehind (length v) (newest_first (frames_of v) []) fs) k.0 (later_frames v t)) in
-    let same : client_reading_of a cmds (v ++ t) ≡ client_reading a cmds P gs rest =
-    (λ j. client_reading a cmds [] ((m.0 ∙ ap (λ fs. frames_of v ++ fs) k.0) j) ((ap plain m.1 ∙ k.1) j)) ∙ goes.1 ∙ ap (λ (past : Past). client_reading a cmds past gs rest) (sym goes.0) in
-    let run = client_run_is a (length v) cmds P gs rest i.seen behind i.started i.one in
-    let r = client_run a (awaiting cmds P) gs rest in
+    record {
+      reading = (λ j. client_reading a cmds [] ((m.0 ∙ ap (λ fs. frames_of v ++ fs) k.0) j) ((ap plain m.1 ∙ k.1) j)) ∙ goes.1 ∙ ap (λ (past : Past). client_reading a cmds past gs rest) (sym goes.0);
+      run = client_run_is a (length v) cmds P gs rest i.seen behind i.started i.one;
+      rest = ap plain m.1 ∙ k.1;
+    }
+
+-- what is sent then
+pub came_sent : (flight : InFlight) (a : Asker) (log : Log) (x : Piece) → IsLog flight a log → fault_in a log ≡ None →
+    sent_of a (Came x ∷ log) ≡ sent_of a log ++ (client_run_on a (awaiting_of (client_held a log)) (max (client_held a log).moment x.moment) ((client_held a log).rest ++ x.bytes)).says
+unfolding client_held
+came_sent flight a log x is fine =
+    let r = reads_piece flight a log x is fine in
+    ap (λ (R : ClientReading). sent_by a (commands_of log) R.past) r.reading ∙ r.run.said
+
+pub came_gained : (flight : InFlight) (a : Asker) (log : Log) (x : Piece) → 1 ≤ a.first_sequence → IsLog flight a log → fault_in a log ≡ None → ClientGains a log (Came x) (client_gain a (client_held a log) (Came x))
+unfolding client_held client_gain
+came_gained flight a log x first is fine =
+    let cmds = commands_of log in
+    let all = stream_of (Came x ∷ log) in
+    let P = past_of a log in
+    let piece = reads_piece flight a log x is fine in
+    let same = piece.reading in
+    let run = piece.run in
+    let r = client_run a (awaiting cmds P) (came_frames log x) (came_rest log x) in
     record {
       sent = ap (λ (R : ClientReading). sent_all a.first_sequence 0 (sent_by a cmds R.past)) same ∙ ap (sent_all a.first_sequence 0) run.said ∙ bytes_behind a.first_sequence (sent_by a cmds P) r.says first;
       answered = ap (λ (R : ClientReading). answers cmds R.past) same ∙ run.answered;
       fault_is = ap (λ (R : ClientReading). R.fault) same ∙ run.fault_is;
       after_is = λ e.
-          (let waits : awaiting cmds (client_reading_of a cmds (v ++ t)).past ≡ r.after = ap (λ (R : ClientReading). awaiting cmds R.past) same ∙ ap (awaiting cmds) (run.goes_on e) ∙ run.after_is e in
-          let numbers : number_after a.first_sequence (sent_after 0 (sent_by a cmds (client_reading_of a cmds (v ++ t)).past)) ≡ next_sent (number_after a.first_sequence (sent_after 0 (sent_by a cmds P))) r.says =
+          (let waits : awaiting cmds (client_reading_of a cmds all).past ≡ r.after = ap (λ (R : ClientReading). awaiting cmds R.past) same ∙ ap (awaiting cmds) (run.goes_on e) ∙ run.after_is e in
+          let numbers : number_after a.first_sequence (sent_after 0 (sent_by a cmds (client_reading_of a cmds all).past)) ≡ next_sent (number_after a.first_sequence (sent_after 0 (sent_by a cmds P))) r.says =
           ap (λ (R : ClientReading). number_after a.first_sequence (sent_after 0 (sent_by a cmds R.past))) same ∙ ap (λ l. number_after a.first_sequence (sent_after 0 l)) run.said ∙ number_behind a.first_sequence (sent_by a cmds P) r.says first in
           λ j. record {
             known = (waits j).known;
@@ -195,8 +231,8 @@ came_gained flight a log x first is fine =
             due = (waits j).due;
             next_id = next_id cmds;
             next = numbers j;
-            moment = now;
-            rest = (ap plain m.1 ∙ k.1) j;
+            moment = max (latest_of log) x.moment;
+            rest = piece.rest j;
           });
     }
 

@@ -129,7 +129,7 @@ begins_or_by true true bytes p q = inl (record { within = leb-true _ _ q; frame 
 begins_or_by true false bytes p q = inr (λ n le is. let z = frame_size n bytes le is in let short = leb-false _ _ q in absurd (omega (arith, z.1, short, le)))
 begins_or_by false v bytes p q = inr (λ n le is. let z = frame_size n bytes le is in let small = leb-false _ _ p in absurd (omega (arith, z.0, z.1, small)))
 
-begins_or : (bytes : List ℕ) → BeginsFrame (size_of bytes) bytes ⊎ BeginsNoFrame bytes
+pub begins_or : (bytes : List ℕ) → BeginsFrame (size_of bytes) bytes ⊎ BeginsNoFrame bytes
 begins_or bytes = begins_or_by (nat_le 8 (size_of bytes)) (nat_le (size_of bytes) (length bytes)) bytes refl refl
 
 -- a header that is refused in the bytes is refused in the frame that they begin with

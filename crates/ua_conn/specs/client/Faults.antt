@@ -3,6 +3,7 @@ use Rattle.std.specs.Prelude.{ℕ, Bool, true, false, not, ◌&&◌, ◌||◌, �
 use Rattle.ua_frame.specs.Layout.{Frame, kind_of, flag_of, fields_of}
 use Rattle.ua_frame.specs.Rows.{Row}
 use Rattle.ua_frame.specs.HeaderRows.{header_fault}
+use Rattle.ua_frame.specs.Hello.{is_acceptable}
 use Rattle.ua_frame.specs.declared.kind.Kind.{Kind}
 use Rattle.ua_frame.specs.declared.kind.Kind.TheVariants as kinds
 use Rattle.ua_frame.specs.declared.acknowledge.Ack.{Ack}
@@ -21,7 +22,7 @@ use Rattle.ua_service.specs.ChannelMessages.{open_response_of}
 use Rattle.ua_service.specs.Responses.{response_of}
 use Rattle.ua_conn.specs.Past.{is_open, is_message, carried, open_in}
 use Rattle.ua_conn.specs.client.Past.{ClientKnown, client_channel, is_acknowledge, acknowledge_in, error_in}
-use Rattle.ua_conn.specs.client.Asker.{Asker}
+use Rattle.ua_conn.specs.client.Asker.{Asker, hello_by}
 use Rattle.ua_conn.specs.declared.client.fault.ClientFault.{ClientFault}
 use Rattle.ua_conn.specs.declared.client.fault.ClientFault.TheVariants.{ServerSaid, Broken}
 
@@ -66,17 +67,10 @@ error_rows (Some e) = (true, ServerSaid e.status e.reason) ∷ []
 
 -- ---- an ACK
 
--- OPC 10000-6, 7.1.2.4: each size is at least 8192 bytes, and at most the one that the Hello named.
-abbrev pub is_size : ℕ → ℕ → Bool
-is_size buffer n = nat_le 8192 n && nat_le n buffer
-
-abbrev pub is_acceptable : Asker → Ack → Bool
-is_acceptable a ack = is_size a.config.buffer ack.receive && is_size a.config.buffer ack.send
-
 -- acknowledge layout; acknowledge not acceptable
 abbrev pub acknowledge_rows : Asker → Option Ack → List Row
 acknowledge_rows a None = (true, 0x80070000) ∷ []
-acknowledge_rows a (Some ack) = (not (is_acceptable a ack), 0x80810000) ∷ []
+acknowledge_rows a (Some ack) = (not (is_acceptable (hello_by a) ack), 0x80810000) ∷ []
 
 -- ---- an OPN
 

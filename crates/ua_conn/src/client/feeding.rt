@@ -5,9 +5,12 @@ ghost use Rattle.ua_frame.specs.Streams.{moment_of as counted};
 ghost use Rattle.ua_conn.specs.client.Asking.{in_flight};
 ghost use Rattle.ua_conn.specs.client.Feeding.{HandsAll, FailsAll};
 
+use crate::bytes::remove_front;
+use crate::client::hearing::hear;
 use crate::client::{Answer, Client, ClientFault};
+use crate::moment::later;
 
-pub trait Feeds {
+impl Client {
     /// Takes one more piece of the server's bytes, which came at `now`: ticks of 100 ns since 1601-01-01 UTC. A moment
     /// before 0, or before that of an earlier call, counts as that.
     ///
@@ -17,10 +20,35 @@ pub trait Feeds {
     /// output has gained what the frames before it ask for. `NoMemory` says that a growth was refused; the output has
     /// then gained whole frames that begin that gain. After each of these the client takes no more. `Ended` says that
     /// it took no more already; nothing has changed. OPC 10000-6, 6.7 and 7.1.2; OPC 10000-4, 5.6.2 and 7.35.
-    fn feed(client: &mut Client, now: i64, piece: &[u8]) -> Result<Vec<Answer>, ClientFault>
-        ensures hands { IfOk result (λ answers. HandsAll in_flight client.old (record { moment = counted now; bytes = piece.now }) client.new answers.items) }
-        ensures fails { IfErr result (λ fault. client.old.failed ≡ false → FailsAll in_flight client.old (record { moment = counted now; bytes = piece.now }) client.new fault) }
-        ensures failed { OnErr result (client.new.failed ≡ true) }
-        ensures ended { IsErrOf result ClientFault.Ended ↔ (client.old.failed ≡ true) }
-        ensures unchanged { client.old.failed ≡ true → client.new ≡ client.old };
+    pub fn feed(&mut self, now: i64, piece: &[u8]) -> Result<Vec<Answer>, ClientFault>
+        ensures hands { IfOk result (λ answers. HandsAll in_flight self.old (record { moment = counted now; bytes = piece.now }) self.new answers.items) }
+        ensures fails { IfErr result (λ fault. self.old.failed ≡ false → FailsAll in_flight self.old (record { moment = counted now; bytes = piece.now }) self.new fault) }
+        ensures failed { OnErr result (self.new.failed ≡ true) }
+        ensures ended { IsErrOf result ClientFault.Ended ↔ (self.old.failed ≡ true) }
+        ensures unchanged { self.old.failed ≡ true → self.new ≡ self.old }
+    {
+        if self.failed {
+            return Err(ClientFault::Ended);
+        }
+        self.failed = true;
+        let now = later(self.moment, now);
+        let Ok(()) = self.rest.extend_from_slice(piece) else {
+            return Err(ClientFault::NoMemory);
+        };
+        let mut answers = Vec::new(self.alloc);
+        let used = match hear(
+            &mut self.connection,
+            now,
+            &self.rest,
+            &mut answers,
+            &mut self.output,
+        ) {
+            Ok(used) => used,
+            Err(fault) => return Err(fault),
+        };
+        remove_front(&mut self.rest, used);
+        self.moment = now;
+        self.failed = false;
+        Ok(answers)
+    }
 }

@@ -11,12 +11,12 @@ ghost use Rattle.ua_conn.specs.server.Answers.{opened_body};
 ghost use Rattle.ua_conn.specs.server.Opening.{asked_rows, Grants};
 ghost use Rattle.ua_conn.specs.server.Effects.{open_effect, Does, Judges};
 
+use crate::content::opening_of;
 use crate::server::connection::Connection;
-use crate::server::connection::admission::are_bytes;
 use crate::server::fault::Fault;
 use std::alloc::Global;
 use ua_channel::{Issued, ServerChannel};
-use ua_chunk::{Assembly, OpenChunk, Sequence, open_chunk, write_open};
+use ua_chunk::{Assembly, OpenChunk, Sequence, write_open};
 use ua_frame::status::BAD_TCP_MESSAGE_TYPE_INVALID;
 use ua_frame::{Frame, Kind};
 use ua_service::{OpenResponse, body_of, read_open, response_header};
@@ -34,17 +34,6 @@ struct Granted {
     token: u32,
     lifetime: u32,
     handle: u32,
-}
-
-/// What an OPN carries; its body is as short as a frame.
-fn opening_of<'a>(frame: &Frame<'a>) -> Result<OpenChunk<'a>, u32>
-    requires { frame.now.kind ≡ Kind.Open }
-    ensures found { IfOk result (λ c. open_chunk_of frame.now.fields ≡ Some c) }
-    ensures short { IfOk result (λ c. length c.body < 2 ^ 32) }
-    ensures refused { IfErr result (λ status. (open_chunk_of frame.now.fields ≡ None) × (status ≡ 0x80070000)) }
-{
-    are_bytes(frame.fields());
-    open_chunk(frame)
 }
 
 /// Admits an OPN, which comes between two messages.

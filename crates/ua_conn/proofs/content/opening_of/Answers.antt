@@ -2,7 +2,7 @@ use Rattle.std.proofs.Common.{◌≡◌, ◌<◌, Some, sym, ap, ◌∙◌, leng
 use Rattle.std.proofs.lemmas.Result.{IfOk-weaker}
 use Rattle.ua_chunk.specs.Layout.{open_chunk_of, open_chunk_in}
 use Rattle.ua_conn.proofs.ServerEnd.ContentLemmas.{open_carried, open_short}
-use Rattle.ua_conn.proofs.server.connection.opening.opening_of.Goals as goal
+use Rattle.ua_conn.proofs.content.opening_of.Goals as goal
 
 pub returns-clause-short : goal.returns-clause-short
 returns-clause-short c =

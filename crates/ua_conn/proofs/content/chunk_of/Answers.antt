@@ -2,7 +2,7 @@ use Rattle.std.proofs.Common.{◌≡◌, ◌<◌, Some, sym, ap, ◌∙◌, leng
 use Rattle.std.proofs.lemmas.Result.{IfOk-weaker}
 use Rattle.ua_chunk.specs.Layout.{chunk_of, chunk_in}
 use Rattle.ua_conn.proofs.ServerEnd.ContentLemmas.{chunk_carried, flagged_some, chunk_short}
-use Rattle.ua_conn.proofs.server.connection.admission.chunk_of.Goals as goal
+use Rattle.ua_conn.proofs.content.chunk_of.Goals as goal
 
 pub returns-clause-short : goal.returns-clause-short
 returns-clause-short c =

@@ -1,0 +1,176 @@
+-- What the definitions say of a frame of each type that comes to a client, by its parts.
+use Rattle.std.proofs.Common.{◌≡◌, ℕ, Bool, true, false, cond, ◌&&◌, ◌==◌, List, [], ◌∷◌, Option, Some, None, refl, ap, ◌∙◌}
+use Rattle.std.specs.Prelude.{not, is_some, is_none, length, option_map}
+use Rattle.ua_frame.specs.HeaderRows.{header_fault}
+use Rattle.ua_frame.specs.Layout.{Frame, Parts, IsFrameOf, kind_of, flag_of}
+use Rattle.ua_frame.specs.Hello.{acknowledge_of, error_of}
+use Rattle.ua_frame.specs.declared.acknowledge.Ack.{Ack}
+use Rattle.ua_frame.specs.declared.kind.Kind.{Kind}
+use Rattle.ua_frame.specs.declared.kind.Kind.TheVariants as kinds
+use Rattle.ua_chunk.specs.Layout.{open_chunk_of, chunk_of}
+use Rattle.ua_chunk.specs.Half.{half_after, ends_message}
+use Rattle.ua_channel.specs.Token.{two_newest}
+use Rattle.ua_conn.specs.Past.{is_open, is_message, has_number, carried, open_in, sequence_of}
+use Rattle.ua_conn.specs.client.Past.{ClientKnown, is_acknowledge, is_acknowledge_frame, acknowledge_in, response_in, granted_by, channel_named}
+use Rattle.ua_conn.specs.client.Pending.{opening_id}
+use Rattle.ua_conn.specs.client.Faults.{FaultRow, first_of, broken, or_fault, greatest_answer, is_awaited, client_rows, awaited_rows, error_rows, client_fault_by, token_usable}
+use Rattle.ua_conn.specs.client.Reading.{answer_at, answer_with, result_by}
+use Rattle.ua_conn.specs.client.Sending.{Sent, Opening, opens_by}
+use Rattle.ua_conn.specs.client.Questions.{open_asked_body}
+use Rattle.ua_conn.specs.client.Machine.{Awaiting, or_ack, client_known_after, waiting_under, without, unless_id, awaiting_fault, awaiting_after, frame_says, frame_answers}
+use Rattle.ua_conn.specs.client.Effects.{asker_with, ClientEffect, opens_at, acknowledge_effect, opening_effect, answer_effect}
+use Rattle.ua_conn.specs.declared.client.config.ClientConfig.{ClientConfig}
+use Rattle.ua_conn.specs.declared.client.fault.ClientFault.{ClientFault}
+use Rattle.ua_conn.specs.declared.client.fault.ClientFault.TheVariants.{Broken}
+use Rattle.ua_conn.specs.declared.client.answer.Answer.{Answer}
+
+-- ---- the rows
+
+abbrev pub rows_at : ClientConfig → Awaiting → Frame → ℕ → Option Kind → List FaultRow
+rows_at config w f flag kind =
+    client_rows (asker_with config) w.known w.due (waiting_under (carried f).request_id w.pending) (token_usable w.known f) f flag kind
+
+abbrev pub type_rows_at : ClientConfig → Awaiting → Frame → ℕ → Option Kind → List FaultRow
+type_rows_at config w f flag kind =
+    awaited_rows (asker_with config) w.known w.due (waiting_under (carried f).request_id w.pending) (token_usable w.known f) f flag kind
+
+-- with a header in order, the first row of the whole frame decides
+pub by_rows : (config : ClientConfig) (w : Awaiting) (f : Frame) → header_fault (greatest_answer w.known.ack) f.bytes ≡ None →
+    awaiting_fault (asker_with config) w f ≡ first_of (rows_at config w f (flag_of f.bytes) (kind_of f.bytes))
+unfolding client_fault_by
+by_rows config w f h = ap (λ o. or_fault (option_map Broken o) (first_of (rows_at config w f (flag_of f.bytes) (kind_of f.bytes)))) h
+
+-- ---- what is known then
+
+abbrev number_at : Frame → Option Kind → ℕ
+number_at f kind = cond (is_open kind) (sequence_of (open_in f)) (carried f).sequence
+
+abbrev known_at : ClientKnown → Frame → ℕ → Option Kind → ClientKnown
+known_at k f flag kind = record {
+  ack = or_ack k.ack (is_acknowledge kind && is_some (acknowledge_in f)) (acknowledge_in f);
+  channel = cond (is_open kind) (channel_named (open_in f)) k.channel;
+  tokens = cond (is_open kind) (two_newest (granted_by (response_in f) f.moment ∷ k.tokens)) k.tokens;
+  last = cond (has_number kind) (Some (number_at f kind)) k.last;
+  half = cond (is_message kind) (half_after k.half flag (carried f).request_id (carried f).body) k.half;
+}
+
+abbrev waits_at : Awaiting → Frame → ℕ → Option Kind → Awaiting
+waits_at w f flag kind = record {
+  known = known_at w.known f flag kind;
+  pending = cond (is_message kind && ends_message flag) (without (carried f).request_id w.pending) w.pending;
+  due = cond (is_open kind) (unless_id w.due (opening_id (open_in f))) w.due;
+}
+
+waits_by : (w : Awaiting) (f : Frame) (flag : ℕ) (kind : Option Kind) → flag_of f.bytes ≡ flag → kind_of f.bytes ≡ kind → awaiting_after w f ≡ waits_at w f flag kind
+unfolding client_known_after
+waits_by w f flag kind q e = λ i. waits_at w f (q i) (e i)
+
+abbrev says_at : ClientConfig → Awaiting → Frame → Option Kind → List Sent
+says_at config w f kind = cond (not (is_some w.known.ack) && (is_acknowledge kind && is_some (acknowledge_in f))) (opens_by (asker_with config) (Some f)) []
+
+says_by : (config : ClientConfig) (w : Awaiting) (f : Frame) (kind : Option Kind) → kind_of f.bytes ≡ kind → frame_says (asker_with config) w f ≡ says_at config w f kind
+says_by config w f kind e = ap (says_at config w f) e
+
+abbrev gives_at : Awaiting → Frame → ℕ → Option Kind → List Answer
+gives_at w f flag kind = cond (is_message kind) (answer_with (carried f).request_id (waiting_under (carried f).request_id w.pending) (result_by w.known flag (carried f))) []
+
+gives_by : (w : Awaiting) (f : Frame) (flag : ℕ) (kind : Option Kind) → flag_of f.bytes ≡ flag → kind_of f.bytes ≡ kind → frame_answers w f ≡ gives_at w f flag kind
+unfolding answer_at
+gives_by w f flag kind q e = λ i. gives_at w f (q i) (e i)
+
+-- ---- one Acknowledge
+
+only_first : (k : ClientKnown) (due : Option ℕ) → is_awaited k due (Some kinds.Acknowledge) ≡ true → k.ack ≡ None
+only_first k due h = by k.ack (length k.tokens == 0) h
+  where
+    by : (o : Option Ack) (b : Bool) → cond (is_none o) true (cond b false false) ≡ true → o ≡ None
+    by None b h = refl
+    by (Some ack) true h = absurd (cc h)
+    by (Some ack) false h = absurd (cc h)
+
+first_ack : (o p : Option Ack) → o ≡ None → or_ack o (is_some p) p ≡ p
+first_ack None None e = refl
+first_ack None (Some ack) e = refl
+first_ack (Some ack) p e = absurd (cc)
+
+same_ack : (o p : Option Ack) → or_ack o false p ≡ o
+same_ack None p = refl
+same_ack (Some ack) p = refl
+
+first_says : (config : ClientConfig) (f : Frame) (o p : Option Ack) → o ≡ None → cond (not (is_some o) && is_some p) (opens_by (asker_with config) (Some f)) [] ≡ opens_at config f.moment p
+first_says config f None None e = refl
+first_says config f None (Some ack) e = refl
+first_says config f (Some ack) p e = absurd (cc)
+
+silent : (b : Bool) (xs : List Sent) → cond (b && false) xs [] ≡ []
+silent true xs = refl
+silent false xs = refl
+
+-- ---- each type
+
+-- the effect is that of the frame
+pub record IsEffect (e : ClientEffect) (config : ClientConfig) (w : Awaiting) (f : Frame) : Type 0 where
+  pub rows : first_of (rows_at config w f (flag_of f.bytes) (kind_of f.bytes)) ≡ first_of e.rows
+  pub waits : awaiting_after w f ≡ e.waits
+  pub says : frame_says (asker_with config) w f ≡ e.says
+  pub gives : frame_answers w f ≡ e.gives
+
+in_turn : (b : Bool) (rows : List FaultRow) → b ≡ true → first_of ((not b, Broken 0x807E0000) ∷ rows) ≡ first_of rows
+in_turn true rows h = refl
+in_turn false rows h = absurd (cc)
+
+pub by_acknowledge : (config : ClientConfig) (w : Awaiting) (f : Frame) (parts : Parts) → IsFrameOf f.bytes parts → parts.kind ≡ kinds.Acknowledge → is_awaited w.known w.due (Some kinds.Acknowledge) ≡ true →
+    IsEffect (acknowledge_effect config w f.moment (acknowledge_of parts.fields)) config w f
+by_acknowledge config w f parts is e turn =
+    let kind : kind_of f.bytes ≡ Some kinds.Acknowledge = is.kind ∙ ap Some e in
+    let E : List ℕ → ClientEffect = λ x. acknowledge_effect config w f.moment (acknowledge_of x) in
+    let none = only_first w.known w.due turn in
+    record {
+      rows = ap (λ κ. first_of (rows_at config w f (flag_of f.bytes) κ)) kind
+          ∙ in_turn (is_awaited w.known w.due (Some kinds.Acknowledge)) (type_rows_at config w f (flag_of f.bytes) (Some kinds.Acknowledge)) turn
+          ∙ ap (λ x. first_of (E x).rows) is.fields;
+      waits = waits_by w f _ _ refl kind
+          ∙ ap (λ (ack : Option Ack). record w { known = record w.known { ack = ack } }) (first_ack w.known.ack (acknowledge_in f) none)
+          ∙ ap (λ x. (E x).waits) is.fields;
+      says = says_by config w f _ kind ∙ first_says config f w.known.ack (acknowledge_in f) none ∙ ap (λ x. (E x).says) is.fields;
+      gives = gives_by w f _ _ refl kind;
+    }
+
+pub by_open : (config : ClientConfig) (w : Awaiting) (f : Frame) (parts : Parts) → IsFrameOf f.bytes parts → parts.kind ≡ kinds.Open → is_awaited w.known w.due (Some kinds.Open) ≡ true →
+    IsEffect (opening_effect w f.moment (open_chunk_of parts.fields)) config w f
+by_open config w f parts is e turn =
+    let kind : kind_of f.bytes ≡ Some kinds.Open = is.kind ∙ ap Some e in
+    let E : List ℕ → ClientEffect = λ x. opening_effect w f.moment (open_chunk_of x) in
+    record {
+      rows = ap (λ κ. first_of (rows_at config w f (flag_of f.bytes) κ)) kind
+          ∙ in_turn (is_awaited w.known w.due (Some kinds.Open)) (type_rows_at config w f (flag_of f.bytes) (Some kinds.Open)) turn
+          ∙ ap (λ x. first_of (E x).rows) is.fields;
+      waits = waits_by w f _ _ refl kind
+          ∙ ap (λ (ack : Option Ack). record (waits_at w f (flag_of f.bytes) (Some kinds.Open)) { known = record (known_at w.known f (flag_of f.bytes) (Some kinds.Open)) { ack = ack } }) (same_ack w.known.ack (acknowledge_in f))
+          ∙ ap (λ x. (E x).waits) is.fields;
+      says = says_by config w f _ kind ∙ silent (not (is_some w.known.ack)) _;
+      gives = gives_by w f _ _ refl kind;
+    }
+
+pub by_message : (config : ClientConfig) (w : Awaiting) (f : Frame) (parts : Parts) → IsFrameOf f.bytes parts → parts.kind ≡ kinds.Message → is_awaited w.known w.due (Some kinds.Message) ≡ true →
+    IsEffect (answer_effect config w f.moment parts.flag (chunk_of parts.fields)) config w f
+by_message config w f parts is e turn =
+    let kind : kind_of f.bytes ≡ Some kinds.Message = is.kind ∙ ap Some e in
+    let E : List ℕ → ClientEffect = λ x. answer_effect config w f.moment parts.flag (chunk_of x) in
+    record {
+      rows = (λ i. first_of (rows_at config w f (is.flag i) (kind i)))
+          ∙ in_turn (is_awaited w.known w.due (Some kinds.Message)) (type_rows_at config w f parts.flag (Some kinds.Message)) turn
+          ∙ ap (λ x. first_of (E x).rows) is.fields;
+      waits = waits_by w f _ _ is.flag kind
+          ∙ ap (λ (ack : Option Ack). record (waits_at w f parts.flag (Some kinds.Message)) { known = record (known_at w.known f parts.flag (Some kinds.Message)) { ack = ack } }) (same_ack w.known.ack (acknowledge_in f))
+          ∙ ap (λ x. (E x).waits) is.fields;
+      says = says_by config w f _ kind ∙ silent (not (is_some w.known.ack)) _;
+      gives = gives_by w f _ _ is.flag kind ∙ ap (λ x. (E x).gives) is.fields;
+    }
+
+-- an ERR, which may come at any time
+pub by_error : (config : ClientConfig) (w : Awaiting) (f : Frame) (parts : Parts) → IsFrameOf f.bytes parts → parts.kind ≡ kinds.Error → header_fault (greatest_answer w.known.ack) f.bytes ≡ None →
+    awaiting_fault (asker_with config) w f ≡ first_of (error_rows (error_of parts.fields))
+by_error config w f parts is e h =
+    let kind : kind_of f.bytes ≡ Some kinds.Error = is.kind ∙ ap Some e in
+    by_rows config w f h ∙ ap (λ κ. first_of (rows_at config w f (flag_of f.bytes) κ)) kind ∙ ap (λ x. first_of (error_rows (error_of x))) is.fields
