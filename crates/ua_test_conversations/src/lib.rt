@@ -19,6 +19,8 @@ mod chunks;
 #[cfg(test)]
 mod client_channel;
 #[cfg(test)]
+mod clients;
+#[cfg(test)]
 mod conversations;
 #[cfg(test)]
 mod keys;
