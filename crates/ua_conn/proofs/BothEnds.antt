@@ -41,3 +41,9 @@ pub mod HandedLemmas
 pub mod UnrefusedLemmas
 pub mod ClosingLemmas
 pub mod AnsweredLemmas
+pub mod BetweenCommandLemmas
+pub mod BetweenTickLemmas
+pub mod BetweenServerLemmas
+pub mod BetweenClientLemmas
+pub mod BetweenRunLemmas
+pub mod BetweenCallLemmas

@@ -4,3 +4,4 @@ pub mod client
 pub mod Story
 pub mod BothEnds
 pub mod Conversing
+pub mod Between

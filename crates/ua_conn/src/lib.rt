@@ -4,7 +4,7 @@
 mod bytes;
 mod client;
 mod content;
-mod converse;
+mod conversation;
 pub mod laws;
 mod limits;
 mod moment;
@@ -15,7 +15,7 @@ mod status;
 mod story;
 
 pub use client::{Answer, AnswerResult, AskFault, Client, ClientConfig, ClientFault};
-pub use converse::Converses;
+pub use conversation::converse;
 pub use outcome::{End, Outcome};
 pub use schedule::Step;
 pub use server::{Fed, FeedFault, Server, answer_all};
