@@ -1,12 +1,15 @@
 //! A client, byte for byte: it opens a channel, asks, is answered, and refuses what a server must not send.
 
-use crate::bytes::changed;
+use crate::bytes::{changed, joined};
 use crate::vectors::{
     ABORT_TOO_LARGE, ACKNOWLEDGE, FIND_BODY, FIND_REQUEST, FIND_RESPONSE, OPEN_REQUEST,
     OPEN_RESPONSE, RENEW_REQUEST, RENEW_RESPONSE,
 };
 use std::alloc::Global;
-use ua_conn::{Answer, AnswerResult, AskFault, Client, ClientConfig, ClientFault};
+use ua_conn::{
+    Answer, AnswerResult, AskFault, Client, ClientConfig, ClientFault, Setup, Step, Story, converse,
+};
+use ua_disco::{DEFAULT, Settings};
 use ua_service::{Request, read_request};
 use ua_value::{UaString, let_go};
 
@@ -211,4 +214,70 @@ fn a_server_that_breaks_the_rules_ends_the_client(rt: HostRuntime) {
         _ => false,
     };
     assert!(rt; broken);
+}
+
+/// The opening and one request, each frame delivered at once.
+fn steps(request: Request) -> [Step; 7] {
+    [
+        Step::Up(32),
+        Step::Down(28),
+        Step::Up(132),
+        Step::Down(135),
+        Step::Ask(request, 69),
+        Step::Up(93),
+        Step::Down(134),
+    ]
+}
+
+fn story(alloc: Global, settings: &Settings, request: Request) -> Option<Story> {
+    let url = UaString::null();
+    let schedule = steps(request);
+    let setup = Setup {
+        settings,
+        channel_id: 1,
+        config: CONFIG,
+        url: &url,
+        first_sequence: 1,
+        start: 0,
+    };
+    converse(alloc, &setup, &schedule).ok()
+}
+
+fn is_told(alloc: Global, story: &Story) -> bool {
+    let (Ok(up), Ok(down)) = (
+        joined(alloc, &[GREETING, OPEN_REQUEST, FIND_REQUEST]),
+        joined(alloc, &[ACKNOWLEDGE, OPEN_RESPONSE, FIND_RESPONSE]),
+    ) else {
+        return false;
+    };
+    let answered = match story.answers.as_slice() {
+        [one] => is_answer(one, 2, None),
+        _ => false,
+    };
+    story.up.as_slice() == up.as_slice()
+        && story.down.as_slice() == down.as_slice()
+        && story.asked.len() == 1
+        && story.handed.len() == 1
+        && answered
+        && story.server_end.is_none()
+        && story.client_fault.is_none()
+}
+
+fn both_ends_converse(alloc: Global, settings: &Settings) -> bool {
+    let Ok(request) = read_request(alloc, FIND_BODY) else {
+        return false;
+    };
+    match story(alloc, settings, request) {
+        Some(story) => is_told(alloc, &story),
+        None => false,
+    }
+}
+
+#[test]
+fn a_client_and_a_server_converse(rt: HostRuntime) {
+    let told = match Settings::from_toml(rt.alloc(), DEFAULT.as_bytes()) {
+        Ok(settings) => both_ends_converse(rt.alloc(), &settings),
+        Err(_) => false,
+    };
+    assert!(rt; told);
 }
