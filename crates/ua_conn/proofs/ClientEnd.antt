@@ -8,7 +8,6 @@ pub mod RunLemmas
 pub mod GainLemmas
 pub mod StopLemmas
 pub mod CommandLemmas
-pub mod PendingLemmas
 pub mod IdLemmas
 pub mod MatchedLemmas
 pub mod CountLemmas

@@ -32,7 +32,7 @@ use Rattle.ua_conn.specs.declared.outcome.End.TheVariants.{Closed, Refused}
 use Rattle.ua_conn.proofs.BothEnds.BaseLemmas.{untokened}
 use Rattle.ua_conn.proofs.BothEnds.FrameListLemmas.{all_front, all_back, all_both}
 use Rattle.ua_conn.proofs.BothEnds.OnTheWayLemmas.{Are, past_of, Sound, Accepts}
-use Rattle.ua_conn.proofs.BothEnds.TokenLemmas.{fault_is}
+use Rattle.ua_conn.proofs.BothEnds.ServerWalkLemmas.{fault_is}
 use Rattle.ua_conn.proofs.BothEnds.WayLemmas.{Passes}
 
 -- ---- a token that is known

@@ -23,8 +23,7 @@ use Rattle.ua_conn.proofs.BothEnds.InvariantForms.{Comes, Core}
 use Rattle.ua_conn.proofs.BothEnds.OnTheWayLemmas.{frames_sent, frames_replied, replied_joined, Are, past_of}
 use Rattle.ua_conn.proofs.BothEnds.OpeningKeepLemmas.{sent_are}
 use Rattle.ua_conn.proofs.BothEnds.SpokenLemmas.{spell, spelled_list, BeginsSpoken}
-use Rattle.ua_conn.proofs.BothEnds.SpokenRequestLemmas.{says_all}
-use Rattle.ua_conn.proofs.BothEnds.SpokenStreamLemmas.{replies_go}
+use Rattle.ua_conn.proofs.BothEnds.SpokenRequestLemmas.{says_all, replies_go}
 use Rattle.ua_conn.proofs.BothEnds.StoryLemmas.{all_spoken}
 use Rattle.ua_conn.proofs.BothEnds.WayLemmas.{server_stands}
 

@@ -6,7 +6,7 @@ use Rattle.std.proofs.lemmas.List.{length-append, length-map, map-append}
 use Rattle.ua_frame.specs.Layout.{Frame}
 use Rattle.ua_chunk.specs.Numbers.{number_after}
 use Rattle.ua_conn.specs.server.Site.{Site}
-use Rattle.ua_conn.specs.Past.{Past}
+use Rattle.ua_conn.specs.Past.{Past, known}
 use Rattle.ua_conn.specs.server.Replies.{Reply, spelled, more_numbered, numbered_after, spelled_all, replies}
 use Rattle.ua_conn.specs.server.Held.{newest_first}
 use Rattle.ua_conn.specs.client.Pending.{bytes_in}
@@ -14,9 +14,7 @@ use Rattle.ua_conn.specs.client.Sending.{Sent, sent_bytes, more_sent, sent_after
 use Rattle.ua_conn.specs.BothEnds.{AllAfter}
 use Rattle.ua_conn.proofs.ServerEnd.NumberLemmas.{spelled_append}
 use Rattle.ua_conn.proofs.BothEnds.OnTheWayLemmas.{frames_sent, frames_replied, Are, past_of}
-use Rattle.ua_conn.proofs.BothEnds.SpokenStreamLemmas.{replies_go}
-use Rattle.ua_conn.proofs.BothEnds.SpokenRequestLemmas.{says_all}
-use Rattle.ua_conn.specs.Past.{known}
+use Rattle.ua_conn.proofs.BothEnds.SpokenRequestLemmas.{replies_go, says_all}
 
 -- ---- what holds of each behind those before it
 

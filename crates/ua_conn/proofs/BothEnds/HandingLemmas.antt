@@ -40,13 +40,6 @@ order_longer s [] ys vs (i ∷ is) h = elim h [ ]
 order_longer s (x ∷ xs) ys [] (i ∷ is) h = elim h [ ]
 order_longer s (x ∷ xs) ys (v ∷ vs) (i ∷ is) h = (h.0, order_longer s xs ys vs is h.1)
 
--- there are no more answers than servings
-pub order_length : (s : Setup) (xs : List Asked) (vs : List Served) (is : List Answer) → AnswersInOrder s xs vs is → length is ≤ length vs
-order_length s xs vs [] h = omega arith
-order_length s [] vs (i ∷ is) h = elim h [ ]
-order_length s (x ∷ xs) [] (i ∷ is) h = elim h [ ]
-order_length s (x ∷ xs) (v ∷ vs) (i ∷ is) h = omega (arith, order_length s xs vs is h.1)
-
 fresh_front : (n : ℕ) (past : Past) (fs : List Frame) → AreFresh n (newest_first fs past) → AreFresh n past
 fresh_front n past [] h = h
 fresh_front n past (f ∷ fs) h = fresh_before n past f (fresh_front n (f ∷ past) fs h)

@@ -4,28 +4,26 @@ use Rattle.std.proofs.Common.{◌≡◌, ℕ, ◌+◌, ◌<◌, ◌≤◌, ◌^�
 use Rattle.std.specs.List.{AllByRecursion}
 use Rattle.std.specs.Prelude.{◌==◌, nat_le, nat_lt, IfSome, option_map}
 use Rattle.std.proofs.lemmas.Bool.{and_parts, leb-true, ltb-false}
-use Rattle.ua_frame.specs.Layout.{kind_of, flag_of, frames_of}
-use Rattle.ua_frame.specs.Streams.{rest_of}
+use Rattle.ua_frame.specs.Layout.{kind_of, flag_of, frames_of, Frame}
+use Rattle.ua_frame.specs.Streams.{rest_of, TimedByte, plain}
 use Rattle.ua_frame.specs.HeaderRows.{header_fault}
 use Rattle.ua_frame.specs.declared.kind.Kind.{Kind}
 use Rattle.ua_frame.specs.declared.kind.Kind.TheVariants as kinds
 use Rattle.ua_frame.specs.declared.acknowledge.Ack.{Ack}
-use Rattle.ua_conn.specs.Past.{carried}
-use Rattle.ua_conn.specs.client.Past.{is_acknowledge, is_acknowledge_frame, acknowledge_in}
+use Rattle.ua_conn.specs.Past.{carried, Past}
+use Rattle.ua_conn.specs.client.Past.{is_acknowledge, is_acknowledge_frame, acknowledge_in, ClientKnown, client_known, acknowledge_frame_in}
 use Rattle.ua_conn.specs.client.Machine.{or_ack, client_known_after}
 use Rattle.ua_conn.specs.client.Faults.{first_of, broken, or_fault, greatest_answer, is_awaited, acknowledge_rows, client_rows, client_fault_by, token_usable}
-use Rattle.ua_conn.specs.client.Reading.{ClientReading, client_fault_at, client_reading, client_fault}
-use Rattle.ua_conn.specs.client.Pending.{bytes_in, due_at, wanted_at}
-use Rattle.ua_conn.specs.client.Asking.{standing, asking_rows, greatest_part, is_too_large, ask_fault}
-use Rattle.ua_conn.specs.Story.{begun, delivered, told_by, came_by, happens, run}
+use Rattle.ua_conn.specs.client.Reading.{ClientReading, client_fault_at, client_reading, client_fault, client_reading_of}
+use Rattle.ua_conn.specs.client.Pending.{bytes_in, due_at, wanted_at, come_by}
+use Rattle.ua_conn.specs.client.Asking.{standing, asking_rows, greatest_part, is_too_large, ask_fault, InFlight}
+use Rattle.ua_conn.specs.Story.{delivered, told_by, came_by, happens, Setup, World, client_stream, server_stream}
 use Rattle.ua_conn.specs.declared.schedule.Step.TheVariants as steps
 use Rattle.ua_conn.specs.declared.client.ask_fault.AskFault.{AskFault}
 use Rattle.ua_conn.specs.declared.client.ask_fault.AskFault.TheVariants.{Ended, NotOpen, BadPartLimit, RenewPending, TooManyPending, IdsSpent, TooLarge}
 use Rattle.ua_conn.specs.declared.client.fault.ClientFault.{ClientFault}
 use Rattle.ua_conn.specs.declared.client.fault.ClientFault.TheVariants.{Broken}
 use Rattle.ua_conn.proofs.ClientEnd.KnownLemmas.{client_known_step}
-use Rattle.ua_frame.specs.Streams.{TimedByte, plain}
-use Rattle.ua_frame.specs.Layout.{Frame}
 use Rattle.ua_frame.specs.Hello.{is_long, is_acceptable, is_size}
 use Rattle.ua_frame.specs.Beginnings.{joined}
 use Rattle.ua_chunk.specs.Cut.{Part, fill}
@@ -34,23 +32,12 @@ use Rattle.ua_chunk.specs.FrameLaws.{IsPartOf, fill_parts}
 use Rattle.ua_channel.specs.Token.{newest_id}
 use Rattle.ua_service.specs.Requests.{canon_request}
 use Rattle.ua_service.specs.ValueLaws.{open_request_length, close_request_length}
-use Rattle.ua_disco.specs.Bounds.{IsLimits}
-use Rattle.ua_conn.specs.Past.{Past}
-use Rattle.ua_conn.specs.server.Feeding.{replies_of}
 use Rattle.ua_conn.specs.client.Asker.{Asker, hello_by}
 use Rattle.ua_conn.specs.client.Commands.{Act, Ask, Renew, Close, Command, Commands, next_id}
-use Rattle.ua_conn.specs.client.Past.{ClientKnown, client_known, acknowledge_frame_in}
-use Rattle.ua_conn.specs.client.Pending.{come_by}
 use Rattle.ua_conn.specs.client.Questions.{open_asked_body, close_asked_body}
-use Rattle.ua_conn.specs.client.Reading.{client_reading_of}
 use Rattle.ua_conn.specs.client.Sending.{Sent, Greeting, Opening, Asking, Closing, sent_bytes, more_sent, sent_all, opens_by, act_says, commands_say, sent_by, client_sent}
-use Rattle.ua_conn.specs.client.Asking.{InFlight}
-use Rattle.ua_conn.specs.Story.{Setup, World, client_stream, server_stream, final}
-use Rattle.ua_conn.specs.BothEnds.{IsSetup}
 use Rattle.ua_conn.specs.declared.schedule.Step.{Step}
-use Rattle.ua_conn.proofs.BothEnds.FaithfulLemmas.{flow}
 use Rattle.ua_conn.proofs.BothEnds.SpokenLemmas.{Spoken, Greets, Opens, Tells, Closes, spell, AreSized, spelled_list, BeginsSpoken, begins_spoken}
-use Rattle.ua_conn.proofs.BothEnds.SpokenReplyLemmas.{replies_spoken, reply_begins}
 
 -- ---- what a client sends, as values
 
@@ -146,14 +133,6 @@ up_begins s w p url cut =
     let xs = client_sent s.asker w.cmds w.down in
     begins_spoken (all_spoken s.asker.first_sequence 0 xs) w.up p.0 (all_sized s.asker.first_sequence 0 xs (sent_sized s.asker w.cmds (client_reading_of s.asker w.cmds w.down).past url cut))
     (p.1 ∙ all_spelled s.asker.first_sequence 0 xs)
-
--- What was delivered to the client: the first frames that the server says, and less than the next.
-pub down_begins : (s : Setup) (w : World) → IsPrefix (plain w.down) (server_stream s w) → IsLimits s.site.settings.limits → BeginsSpoken w.down (replies_spoken s.site 0 (replies_of s.site w.up))
-down_begins s w p limits = reply_begins s.site w.up w.down p.0 (omega (arith, limits.send_most)) p.1
-
--- after every schedule
-pub story_down : (flight : InFlight) (s : Setup) (schedule : List Step) → IsSetup s → (let w = final flight s schedule in BeginsSpoken w.down (replies_spoken s.site 0 (replies_of s.site w.up)))
-story_down flight s schedule h = let w = final flight s schedule in down_begins s w (flow flight s schedule).down h.site.settings.bounds.limits
 
 -- ---- the parts of every request fit
 
@@ -273,14 +252,3 @@ cut_kept flight s w (steps.Up n) most h = h
 cut_kept flight s w (steps.Down n) most h =
     let v = delivered w.clock w.down n (server_stream s w) in
     cut_came w v (client_fault s.asker w.cmds v) h
-
-cut_run : (flight : InFlight) (s : Setup) (es : List Step) (w : World) → s.asker.config.buffer ≤ 1048576 → AreCut w.cmds → AreCut (run flight s w es).cmds
-cut_run flight s [] w most h = h
-cut_run flight s (e ∷ es) w most h = cut_run flight s es (happens flight s w e) most (cut_kept flight s w e most h)
-
--- after every schedule
-pub story_up : (flight : InFlight) (s : Setup) (schedule : List Step) → IsSetup s
-    → (let w = final flight s schedule in BeginsSpoken w.up (all_spoken s.asker.first_sequence 0 (client_sent s.asker w.cmds w.down)))
-story_up flight s schedule h =
-    let w = final flight s schedule in
-    up_begins s w (flow flight s schedule).up h.asker.url (cut_run flight s schedule (begun s) h.asker.config.buffer_most tt)

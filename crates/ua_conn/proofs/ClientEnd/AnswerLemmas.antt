@@ -6,7 +6,7 @@ use Rattle.ua_frame.specs.Rows.{Row, first_row}
 use Rattle.ua_frame.specs.declared.acknowledge.Ack.{Ack}
 use Rattle.ua_frame.specs.declared.kind.Kind.{Kind}
 use Rattle.ua_chunk.specs.Layout.{Chunk, FlaggedChunk, abort_of}
-use Rattle.ua_chunk.specs.Half.{Half, body_of, may_have_id, other_request_id, message_too_large, abort_malformed, half_after, ends_message}
+use Rattle.ua_chunk.specs.Half.{Half, body_of, may_have_id, message_too_large, abort_malformed, half_after, ends_message}
 use Rattle.ua_chunk.specs.Gathered.{Gathered}
 use Rattle.ua_channel.specs.Channel.{Shown, numbered}
 use Rattle.ua_service.specs.declared.request.Request.{Request}
@@ -25,20 +25,9 @@ use Rattle.ua_conn.specs.declared.client.answer.Answer.{Answer}
 use Rattle.ua_conn.specs.declared.client.answer.AnswerResult.{AnswerResult}
 use Rattle.ua_conn.specs.declared.client.answer.AnswerResult.TheVariants as results
 use Rattle.ua_conn.specs.declared.client.fault.ClientFault.TheVariants.{Broken}
-use Rattle.ua_conn.proofs.ServerEnd.TableLemmas.{join_none, join_some}
+use Rattle.ua_conn.proofs.ServerEnd.TableLemmas.{join_none}
 use Rattle.ua_conn.proofs.ServerEnd.MessageLemmas.{IsChunkOf}
-use Rattle.ua_conn.proofs.ClientEnd.EffectLemmas.{broken_first, broken_status, broken_none, first_passes, given, waits_of}
-
--- ---- rows
-
--- a part that its channel refuses
-pub answer_unheard : (config : ClientConfig) (ack : Option Ack) (channel : Shown) (half : Option Half) (pending : List (ℕ × Request)) (due : Option ℕ) (now flag : ℕ) (o : Option Chunk) (status : ℕ) →
-    first_row (answer_heard_rows channel.channel now o) ≡ Some status → first_of (answer_effect config (waits_of ack channel half pending due) now flag o).rows ≡ Some (Broken status)
-answer_unheard config ack channel half pending due now flag o status h =
-    let c = or_empty o in
-    let heard = answer_heard_rows (client_channel (client_known_of ack channel half)) now o in
-    let more = answer_rows (asker_with config) (client_known_of ack channel half) (waiting_under c.request_id pending) flag c in
-    broken_status (heard ++ more) status (join_some heard more status h)
+use Rattle.ua_conn.proofs.ClientEnd.EffectLemmas.{broken_first, broken_none, first_passes, given, waits_of}
 
 -- what the rows of a part say counts for the whole table
 answer_decides : (config : ClientConfig) (ack : Option Ack) (channel : Shown) (half : Option Half) (pending : List (ℕ × Request)) (due : Option ℕ) (now flag : ℕ) (o : Option Chunk) (c : Chunk) →
@@ -50,28 +39,9 @@ answer_decides config ack channel half pending due now flag o c e h =
     let more : Chunk → List Row = λ c. answer_rows (asker_with config) (client_known_of ack channel half) (waiting_under c.request_id pending) flag c in
     broken_first (heard ++ more d) ∙ ap (option_map Broken) (join_none heard (more d) h ∙ ap (λ o. first_row (more (or_empty o))) e)
 
-pub answer_of_other : (config : ClientConfig) (ack : Option Ack) (channel : Shown) (half : Option Half) (pending : List (ℕ × Request)) (due : Option ℕ) (now flag : ℕ) (o : Option Chunk) (c : Chunk) (status : ℕ) →
-    o ≡ Some c → first_row (answer_heard_rows channel.channel now o) ≡ None → first_row (other_request_id half c.request_id ∷ []) ≡ Some status →
-    first_of (answer_effect config (waits_of ack channel half pending due) now flag o).rows ≡ Some (Broken status)
-answer_of_other config ack channel half pending due now flag o c status e h r =
-    let more = answer_rows (asker_with config) (client_known_of ack channel half) (waiting_under c.request_id pending) flag c in
-    answer_decides config ack channel half pending due now flag o c e h ∙ ap (option_map Broken) (by (not (may_have_id half c.request_id)) _ r)
-  where
-    by : (b : Bool) (o : Option ℕ) → cond b (Some 0x807E0000) None ≡ Some status → cond b (Some 0x807E0000) o ≡ Some status
-    by true o e = e
-    by false o e = absurd (cc)
-
 passes_id : (b : Bool) (status : ℕ) (o : Option ℕ) → b ≡ true → cond (not b) (Some status) o ≡ o
 passes_id true status o h = refl
 passes_id false status o h = absurd (cc)
-
-pub answer_to_none : (config : ClientConfig) (ack : Option Ack) (channel : Shown) (half : Option Half) (pending : List (ℕ × Request)) (due : Option ℕ) (now flag : ℕ) (o : Option Chunk) (c : Chunk) →
-    o ≡ Some c → first_row (answer_heard_rows channel.channel now o) ≡ None → may_have_id half c.request_id ≡ true → waiting_under c.request_id pending ≡ None →
-    first_of (answer_effect config (waits_of ack channel half pending due) now flag o).rows ≡ Some (Broken 0x80090000)
-answer_to_none config ack channel half pending due now flag o c e h same none =
-    answer_decides config ack channel half pending due now flag o c e h
-    ∙ ap (λ w. option_map Broken (first_row (answer_rows (asker_with config) (client_known_of ack channel half) w flag c))) none
-    ∙ ap (option_map Broken) (passes_id (may_have_id half c.request_id) 0x807E0000 (Some 0x80090000) same)
 
 -- ---- a part of an answer that waits
 
@@ -116,13 +86,6 @@ ends_with g c request h =
 pub record Ends (id : ℕ) (pending pending' : List (ℕ × Request)) (came : Option AnswerResult) (had has : List Answer) : Type 0 where
   pub left : pending' ≡ cond (is_some came) (without id pending) pending
   pub given : has ≡ had ++ answer_with id (waiting_under id pending) came
-
-no_answer : (id : ℕ) (wanted : Option Request) → answer_with id wanted None ≡ []
-no_answer id None = refl
-no_answer id (Some request) = refl
-
-pub goes_on : (id : ℕ) (pending : List (ℕ × Request)) (answers : List Answer) → Ends id pending pending None answers answers
-goes_on id pending answers = record { left = refl; given = sym (append-nil answers) ∙ ap (λ xs. answers ++ xs) (sym (no_answer id (waiting_under id pending))) }
 
 pub answer_acts : (config : ClientConfig) (ack : Option Ack) (channel new : Shown) (g g' : Gathered) (pending pending' : List (ℕ × Request)) (due : Option ℕ) (next now flag : ℕ) (o : Option Chunk) (c : FlaggedChunk) (kind : Kind) (request : Request) (came : Option AnswerResult) (bytes : List ℕ) (had has : List Answer) →
     IsHalf config g → IsChunkOf kind flag o c → first_row (answer_heard_rows channel.channel now o) ≡ None → new ≡ record { channel = numbered channel.channel c.chunk.sequence; moment = now } →

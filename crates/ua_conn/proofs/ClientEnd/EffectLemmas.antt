@@ -26,7 +26,6 @@ use Rattle.ua_conn.specs.client.Ranges.{client_known_of, client_running_of}
 use Rattle.ua_conn.specs.client.Effects.{asker_with, acknowledge_effect, opening_effect, Given, Acts}
 use Rattle.ua_conn.specs.declared.client.config.ClientConfig.{ClientConfig}
 use Rattle.ua_conn.specs.declared.client.answer.Answer.{Answer}
-use Rattle.ua_conn.specs.declared.client.fault.ClientFault.{ClientFault}
 use Rattle.ua_conn.specs.declared.client.fault.ClientFault.TheVariants.{Broken}
 use Rattle.ua_conn.proofs.ServerEnd.TableLemmas.{join_none}
 
@@ -40,9 +39,6 @@ broken_first (row ∷ rows) = by row.0 (broken_first rows)
     by : (b : Bool) → first_of (broken rows) ≡ option_map Broken (first_row rows) → cond b (Some (Broken row.1)) (first_of (broken rows)) ≡ option_map Broken (cond b (Some row.1) (first_row rows))
     by true h = refl
     by false h = h
-
-pub broken_status : (rows : List Row) (status : ℕ) → first_row rows ≡ Some status → first_of (broken rows) ≡ Some (Broken status)
-broken_status rows status h = broken_first rows ∙ ap (option_map Broken) h
 
 unbroken : (o : Option ℕ) → option_map Broken o ≡ None → o ≡ None
 unbroken None h = refl
@@ -60,14 +56,6 @@ behind_none (row ∷ rows) more h = by row.0 (behind_none rows more) h
     by true g h = absurd (cc h)
     by false g h = g h
 
-pub before_some : (rows more : List FaultRow) (fault : ClientFault) → first_of rows ≡ Some fault → first_of (rows ++ more) ≡ Some fault
-before_some [] more fault h = absurd (cc)
-before_some (row ∷ rows) more fault h = by row.0 (before_some rows more fault) h
-  where
-    by : (b : Bool) → (first_of rows ≡ Some fault → first_of (rows ++ more) ≡ Some fault) → cond b (Some row.1) (first_of rows) ≡ Some fault → cond b (Some row.1) (first_of (rows ++ more)) ≡ Some fault
-    by true g h = h
-    by false g h = g h
-
 -- of a table that lets something pass, the first row and the others do
 pub first_passes : (b : Bool) (status : ℕ) (o : Option ℕ) → cond b (Some status) o ≡ None → (b ≡ false) × (o ≡ None)
 first_passes true status o h = absurd (cc)
@@ -83,13 +71,6 @@ waits_of ack channel half pending due = record { known = client_known_of ack cha
 
 abbrev pub admitting_rows : Channel → Option Half → Option ℕ → OpenChunk → List Row
 admitting_rows c half due opening = admit_response_rows c opening ++ (is_some half, 0x807E0000) ∷ (not (is_id due opening.request_id), 0x80090000) ∷ []
-
--- refused by its channel, inside a message, or as the answer to nothing that was asked
-pub opening_refused : (ack : Option Ack) (channel : Shown) (half : Option Half) (pending : List (ℕ × Request)) (due : Option ℕ) (now : ℕ) (o : Option OpenChunk) (opening : OpenChunk) (status : ℕ) →
-    o ≡ Some opening → first_row (admitting_rows channel.channel half due opening) ≡ Some status → first_of (opening_effect (waits_of ack channel half pending due) now o).rows ≡ Some (Broken status)
-opening_refused ack channel half pending due now o opening status e h =
-    ap (λ o. first_of (opened_rows (client_known_of ack channel half) due o)) e
-    ∙ before_some (broken (admitting_rows channel.channel half due opening)) (response_rows opening.channel (open_response_of opening.body)) (Broken status) (broken_status (admitting_rows channel.channel half due opening) status h)
 
 -- what the rows of its response say counts for the whole table
 pub response_decides : (ack : Option Ack) (channel : Shown) (half : Option Half) (pending : List (ℕ × Request)) (due : Option ℕ) (now : ℕ) (o : Option OpenChunk) (opening : OpenChunk) →

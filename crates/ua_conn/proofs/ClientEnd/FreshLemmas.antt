@@ -169,6 +169,11 @@ unlike m id lt = by (m == id) refl
     by false e = refl
     by true e = absurd (omega (arith, lt, eqb-true m id e))
 
+-- an id that none of the first has is found among the others
+pub find_new : (n : ℕ) (xs ys : List Asked) → AreBelow n xs → request_under n (xs ++ ys) ≡ request_under n ys
+find_new n [] ys h = refl
+find_new n (x ∷ xs) ys h = ap (λ b. option_map (λ (a : Asked). a.request) (cond b (Some x) (find (λ a. a.id == n) (xs ++ ys)))) (unlike x.id n h.0) ∙ find_new n xs ys h.1
+
 pub other : (n id m : ℕ) (ids : List ℕ) → m < n → n ≤ id → is_among ids id ≡ false → is_among (m ∷ ids) id ≡ false
 other n id m ids lt le h = ap (λ b. b || is_among ids id) (unlike m id (omega (arith, lt, le))) ∙ h
 

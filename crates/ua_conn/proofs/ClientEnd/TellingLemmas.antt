@@ -26,8 +26,7 @@ use Rattle.ua_conn.specs.client.Telling.{against, waits_for, waits_open, numbere
 use Rattle.ua_conn.specs.declared.client.ask_fault.AskFault.{AskFault}
 use Rattle.ua_conn.specs.declared.client.ask_fault.AskFault.TheVariants as reasons
 use Rattle.ua_conn.proofs.ServerEnd.ReplyLemmas.{fill_count}
-use Rattle.ua_conn.proofs.ClientEnd.FreshLemmas.{asked_below, below_filter}
-use Rattle.ua_conn.proofs.ClientEnd.PendingLemmas.{find_new}
+use Rattle.ua_conn.proofs.ClientEnd.FreshLemmas.{find_new, asked_below, below_filter}
 use Rattle.ua_conn.proofs.ClientEnd.RecordLemmas.{refused_by_record, under_same}
 use Rattle.ua_conn.proofs.ClientEnd.GainLemmas.{told_gained}
 

@@ -43,11 +43,6 @@ pub front_goes_on : (old new : Running) (now len : ℕ) (bytes : List ℕ) (f : 
 front_goes_on old new now len bytes f had has e within is h all =
     subst (λ (n : ℕ). Steps old new now bytes had has (steps.GoesOn (8 + n))) (sym e) (taken_front old new now bytes f had has taken.GoesOn within is h all)
 
-pub front_closes : (old new : Running) (now : ℕ) (bytes : List ℕ) (f : Parts) (had has : Gained) → size_of bytes ≤ length bytes → IsFrameOf (take (size_of bytes) bytes) f →
-    header_fault (greatest_frame old.known.limits) bytes ≡ None → TakesAny old new now f had has taken.Closed → Steps old new now bytes had has steps.Closed
-front_closes old new now bytes f had has within is h all =
-    let at = taken_front old new now bytes f had has taken.Closed within is h all in (8 + length f.fields, at.0, at.1)
-
 pub front_refused : (old new : Running) (now : ℕ) (bytes : List ℕ) (f : Parts) (status : ℕ) (had has : Gained) → size_of bytes ≤ length bytes → IsFrameOf (take (size_of bytes) bytes) f →
     header_fault (greatest_frame old.known.limits) bytes ≡ None → TakesAny old new now f had has (taken.Refused status) → Steps old new now bytes had has (steps.Refused status)
 front_refused old new now bytes f status had has within is h all =
