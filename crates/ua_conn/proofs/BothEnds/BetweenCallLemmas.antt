@@ -4,7 +4,6 @@ use Rattle.std.specs.Prelude.{◌↔◌, ℕ, if◌then◌else◌, is_ok, IsErrO
 use Rattle.ua_frame.specs.Streams.{Piece}
 use Rattle.ua_service.specs.declared.request.Request.{Request}
 use Rattle.ua_conn.specs.server.Feeding.{Shown, FeedsAll}
-use Rattle.ua_conn.specs.client.Asking.{in_flight}
 use Rattle.ua_conn.specs.client.Feeding.{ClientShown, HandsAll, FailsAll}
 use Rattle.ua_conn.specs.Between.{is_said, Meets, Served, Fed, Heard, Answered, Refused}
 use Rattle.ua_conn.specs.declared.outcome.End.{End}
@@ -34,14 +33,14 @@ serves_piece fed ended (Err f) old new x down down' given had has end end' feeds
 
 -- a client's answers to a piece, put behind the earlier ones
 pub hears_piece : {T E F : Type 0} (fed : T) (ended : E) (r : Result (Unit {0}) F) (old new : ClientShown) (x : Piece) (given had has : List Answer) (fault : Option ClientFault) →
-    HandsAll in_flight old x new given → (IsErrOf {T = T} {E = E} (Ok fed) ended ↔ (old.failed ≡ true)) → has ≡ (if is_ok r then had ++ given else had) →
+    HandsAll old x new given → (IsErrOf {T = T} {E = E} (Ok fed) ended ↔ (old.failed ≡ true)) → has ≡ (if is_ok r then had ++ given else had) →
     OnOk r (Heard old new x had has fault fault)
 hears_piece fed ended (Ok u) old new x given had has fault hands e more = Answered given (alive fed ended old.failed e) hands more refl
 hears_piece fed ended (Err f) old new x given had has fault hands e more = tt
 
 -- a fault that the client newly met, and one that it had met before
 pub hears_fault : {T : Type 0} (f g : ClientFault) (old new : ClientShown) (x : Piece) (has : List Answer) (fault : Option ClientFault) → Meets f (Some g) →
-    (old.failed ≡ false → FailsAll in_flight old x new f) → (IsErrOf {T = T} (Err f) faults.Ended ↔ (old.failed ≡ true)) →
+    (old.failed ≡ false → FailsAll old x new f) → (IsErrOf {T = T} (Err f) faults.Ended ↔ (old.failed ≡ true)) →
     Heard old new x has has fault (Some g)
 hears_fault {T} f g old new x has fault met fails e = subst (λ (k : ClientFault). Heard old new x has has fault (Some k)) (sym met.0) (by old.failed refl)
   where

@@ -5,7 +5,6 @@ use Rattle.ua_frame.specs.Streams.{Piece, TimedByte, at, moment_of}
 use Rattle.ua_conn.specs.client.Asker.{Asker}
 use Rattle.ua_conn.specs.client.Reading.{ClientReading, client_fault, matched, answers}
 use Rattle.ua_conn.specs.client.Sending.{sent_by, sent_all, client_bytes}
-use Rattle.ua_conn.specs.client.Asking.{in_flight}
 use Rattle.ua_conn.specs.client.Held.{Log, Came, stream_of, latest_of, fault_in, client_held}
 use Rattle.ua_conn.specs.client.Feeding.{ClientShown, HandsAll, FailsAll, FailsBy, Fails, SendsMore}
 use Rattle.ua_conn.specs.Story.{Setup, World, delivered, came_by, came, server_stream}
@@ -85,7 +84,7 @@ heard_between s w r n down_to client client' answers' up' fault' b more heard em
         let out : client.output ≡ sends.added = sends.out_is ∙ ap (λ k. k ++ sends.added) b.all_sent in
         sent ∙ (λ i. b.up_is i ++ out i) ∙ (λ i. client_bytes a (sym l.commands i) (sym l.stream i) ++ sends.added) ∙ sym sends.sent ∙ (λ i. client_bytes a (l.commands i) (stream_is log l i))
 
-    when_answered : (given : List Answer) → r.client.failed ≡ false → HandsAll in_flight r.client y client given → answers' ≡ r.answers ++ given → fault' ≡ r.client_fault → ClientAt a now w.cmds w.down w.settled r.client r.client_fault → Goal
+    when_answered : (given : List Answer) → r.client.failed ≡ false → HandsAll r.client y client given → answers' ≡ r.answers ++ given → fault' ≡ r.client_fault → ClientAt a now w.cmds w.down w.settled r.client r.client_fault → Goal
     when_answered given alive hands has kept (Failed f failed is shows) = absurd (true≢false (sym failed ∙ alive))
     when_answered given alive hands has kept (Lives log l none) =
         let h = hands a log l.lived in
@@ -109,7 +108,7 @@ heard_between s w r n down_to client client' answers' up' fault' b more heard em
         (has ∙ ap (λ k. k ++ given) (b.answers_are ∙ (λ i. matched a (sym l.commands i) ((l.settled_is ∙ sym l.stream) i))) ∙ sym h.answered ∙ (λ i. matched a (l.commands i) (stream_is log l i)))
         (bytes_are log l h.sends)
 
-    when_refused : (f : ClientFault) → r.client.failed ≡ false → is_said f ≡ true → FailsAll in_flight r.client y client f → answers' ≡ r.answers → fault' ≡ Some f → ClientAt a now w.cmds w.down w.settled r.client r.client_fault → Goal
+    when_refused : (f : ClientFault) → r.client.failed ≡ false → is_said f ≡ true → FailsAll r.client y client f → answers' ≡ r.answers → fault' ≡ Some f → ClientAt a now w.cmds w.down w.settled r.client r.client_fault → Goal
     when_refused f alive said fails has shows (Failed g failed is before) = absurd (true≢false (sym failed ∙ alive))
     when_refused f alive said fails has shows (Lives log l none) =
         let h = fails_of a log y r.client client f said (fails a log l.lived) in
@@ -130,8 +129,8 @@ heard_between s w r n down_to client client' answers' up' fault' b more heard em
         (sent ∙ (λ i. b.up_is i ++ (ap (λ (k : ClientShown). k.output) client_is ∙ b.all_sent) i) ∙ append-nil _ ∙ (λ i. sent_all a.first_sequence 0 (sent_by a w.cmds (sym stays i).past)))
 
     by : Heard r.client client x r.answers answers' r.client_fault fault' → Goal
-    by (Answered given alive hands has kept) = when_answered given alive (subst (λ p. HandsAll in_flight r.client p client given) same hands) has kept b.client
-    by (Refused f alive said fails has shows) = when_refused f alive said (subst (λ p. FailsAll in_flight r.client p client f) same fails) has shows b.client
+    by (Answered given alive hands has kept) = when_answered given alive (subst (λ p. HandsAll r.client p client given) same hands) has kept b.client
+    by (Refused f alive said fails has shows) = when_refused f alive said (subst (λ p. FailsAll r.client p client f) same fails) has shows b.client
     by (Left failed client_is has kept) = when_left failed client_is has kept b.client
 
 pub heard_step : (r : Run) (n down_to : ℕ) (z : ℤ) (bytes piece : List ℕ) (client client' : ClientShown) (answers' : List Answer) (up' : List ℕ) (fault' : Option ClientFault) → z ≡ r.clock →

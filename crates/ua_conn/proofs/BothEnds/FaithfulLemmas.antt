@@ -22,7 +22,7 @@ use Rattle.ua_conn.specs.client.Pending.{bytes_in, come_by, due_at, wanted_at}
 use Rattle.ua_conn.specs.client.Faults.{first_of, or_fault, greatest_answer, client_rows, awaited_rows, client_fault_by, is_awaited, token_usable}
 use Rattle.ua_conn.specs.client.Reading.{ClientReading, client_fault_at, client_reading, client_reading_of, client_fault}
 use Rattle.ua_conn.specs.client.Sending.{Sent, sent_bytes, more_sent, sent_after, sent_all, greets, opens, opens_by, act_says, commands_say, sent_by, client_bytes}
-use Rattle.ua_conn.specs.client.Asking.{InFlight, standing, act_rows, ask_fault}
+use Rattle.ua_conn.specs.client.Asking.{standing, act_rows, ask_fault}
 use Rattle.ua_conn.specs.Story.{Setup, World, begun, client_stream, server_stream, delivered, told_by, came_by, happens, run, final}
 use Rattle.ua_conn.specs.BothEnds.{Faithful}
 use Rattle.ua_conn.specs.declared.schedule.Step.{Step}
@@ -216,16 +216,16 @@ acked a cmds past (f ∷ fs) rest h = by (client_fault_at a cmds past f) refl (a
     by None e k = k (acked_step a cmds past f e h)
 
 -- a command that is accepted comes behind the Acknowledge
-pub accepted_acked : (flight : InFlight) (a : Asker) (cmds : Commands) (v : List TimedByte) (act : Act) → ask_fault flight a cmds v act ≡ None → (f : Frame) × (acknowledge_frame_in (client_reading_of a cmds v).past ≡ Some f)
+pub accepted_acked : (a : Asker) (cmds : Commands) (v : List TimedByte) (act : Act) → ask_fault a cmds v act ≡ None → (f : Frame) × (acknowledge_frame_in (client_reading_of a cmds v).past ≡ Some f)
 unfolding client_known
-accepted_acked flight a cmds v act h = by (acked a cmds [] (frames_of v) (plain (rest_of v)) (inl refl))
+accepted_acked a cmds v act h = by (acked a cmds [] (frames_of v) (plain (rest_of v)) (inl refl))
   where
     P : Past
     P = (client_reading_of a cmds v).past
 
     is_there : (standing cmds P).channel_open ≡ true
     is_there = not_false (standing cmds P).channel_open
-        (second_row_fails (is_some (client_reading_of a cmds v).fault) (not (standing cmds P).channel_open) Ended NotOpen (act_rows flight (standing cmds P) act) h)
+        (second_row_fails (is_some (client_reading_of a cmds v).fault) (not (standing cmds P).channel_open) Ended NotOpen (act_rows (standing cmds P) act) h)
 
     by : IsAcked P → (f : Frame) × (acknowledge_frame_in P ≡ Some f)
     by (inr g) = g
@@ -257,11 +257,11 @@ pub seen_one : (n : ℕ) (c : Command) (cmds : Commands) → c.seen ≤ n → Al
 unfolding AllSeen
 seen_one n c cmds le h = (le, h)
 
-flow_told : (flight : InFlight) (s : Setup) (w : World) → Flow s w → (act : Act) (o : Option AskFault) → ask_fault flight s.asker w.cmds w.down act ≡ o → Flow s (told_by w act o)
-flow_told flight s w i act (Some reason) e = i
-flow_told flight s w i act None e =
+flow_told : (s : Setup) (w : World) → Flow s w → (act : Act) (o : Option AskFault) → ask_fault s.asker w.cmds w.down act ≡ o → Flow s (told_by w act o)
+flow_told s w i act (Some reason) e = i
+flow_told s w i act None e =
     let c : Command = record { act = act; moment = moment_of w.clock; seen = length w.down } in
-    let a = accepted_acked flight s.asker w.cmds w.down act e in
+    let a = accepted_acked s.asker w.cmds w.down act e in
     record {
       up = prefix_trans (plain w.up) (client_stream s w) (client_bytes s.asker (c ∷ w.cmds) w.down) i.up (told_grows s.asker c w.cmds w.down (omega arith));
       down = i.down;
@@ -285,27 +285,27 @@ flow_down s w i n o = by o
     by (Some fault) = record { up = up; down = delivered_prefix w.clock w.down n (server_stream s w) i.down; seen = seen; started = started_later s.asker w.cmds w.down t i.started }
     by None = record { up = up; down = delivered_prefix w.clock w.down n (server_stream s w) i.down; seen = seen; started = started_later s.asker w.cmds w.down t i.started }
 
-pub flow_kept : (flight : InFlight) (s : Setup) (w : World) → Flow s w → (e : Step) → Flow s (happens flight s w e)
-flow_kept flight s w i (steps.Ask request part) = flow_told flight s w i (Ask request part) (ask_fault flight s.asker w.cmds w.down (Ask request part)) refl
-flow_kept flight s w i steps.Renew = flow_told flight s w i Renew (ask_fault flight s.asker w.cmds w.down Renew) refl
-flow_kept flight s w i steps.Close = flow_told flight s w i Close (ask_fault flight s.asker w.cmds w.down Close) refl
-flow_kept flight s w i (steps.Tick n) = record { up = i.up; down = i.down; seen = i.seen; started = i.started }
-flow_kept flight s w i (steps.Up n) = record {
+pub flow_kept : (s : Setup) (w : World) → Flow s w → (e : Step) → Flow s (happens s w e)
+flow_kept s w i (steps.Ask request part) = flow_told s w i (Ask request part) (ask_fault s.asker w.cmds w.down (Ask request part)) refl
+flow_kept s w i steps.Renew = flow_told s w i Renew (ask_fault s.asker w.cmds w.down Renew) refl
+flow_kept s w i steps.Close = flow_told s w i Close (ask_fault s.asker w.cmds w.down Close) refl
+flow_kept s w i (steps.Tick n) = record { up = i.up; down = i.down; seen = i.seen; started = i.started }
+flow_kept s w i (steps.Up n) = record {
   up = delivered_prefix w.clock w.up n (client_stream s w) i.up;
   down = prefix_trans (plain w.down) (server_stream s w) (reply_bytes s.site (delivered w.clock w.up n (client_stream s w))) i.down
       (reply_grows s.site w.up (map (at (moment_of w.clock)) (take n (drop (length w.up) (client_stream s w)))));
   seen = i.seen;
   started = i.started;
 }
-flow_kept flight s w i (steps.Down n) = flow_down s w i n (client_fault s.asker w.cmds (delivered w.clock w.down n (server_stream s w)))
+flow_kept s w i (steps.Down n) = flow_down s w i n (client_fault s.asker w.cmds (delivered w.clock w.down n (server_stream s w)))
 
-flow_run : (flight : InFlight) (s : Setup) (es : List Step) (w : World) → Flow s w → Flow s (run flight s w es)
-flow_run flight s [] w i = i
-flow_run flight s (e ∷ es) w i = flow_run flight s es (happens flight s w e) (flow_kept flight s w i e)
+flow_run : (s : Setup) (es : List Step) (w : World) → Flow s w → Flow s (run s w es)
+flow_run s [] w i = i
+flow_run s (e ∷ es) w i = flow_run s es (happens s w e) (flow_kept s w i e)
 
-pub flow : (flight : InFlight) (s : Setup) (schedule : List Step) → Flow s (final flight s schedule)
+pub flow : (s : Setup) (schedule : List Step) → Flow s (final s schedule)
 unfolding AllSeen
-flow flight s schedule = flow_run flight s schedule (begun s) (record { up = (client_stream s (begun s), refl); down = (server_stream s (begun s), refl); seen = tt; started = untold refl })
+flow s schedule = flow_run s schedule (begun s) (record { up = (client_stream s (begun s), refl); down = (server_stream s (begun s), refl); seen = tt; started = untold refl })
 
-pub faithful : (flight : InFlight) → Faithful flight
-faithful flight s schedule = let i = flow flight s schedule in (i.up, i.down)
+pub faithful : Faithful
+faithful s schedule = let i = flow s schedule in (i.up, i.down)

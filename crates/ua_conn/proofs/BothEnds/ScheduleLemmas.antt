@@ -7,7 +7,7 @@ use Rattle.ua_conn.specs.client.Asker.{Asker}
 use Rattle.ua_conn.specs.client.Commands.{Act, Ask, Renew, Close, Command, Commands, opens_asked}
 use Rattle.ua_conn.specs.client.Past.{granted_in}
 use Rattle.ua_conn.specs.client.Reading.{ClientReading, client_reading_of, client_fault}
-use Rattle.ua_conn.specs.client.Asking.{InFlight, ask_fault}
+use Rattle.ua_conn.specs.client.Asking.{ask_fault}
 use Rattle.ua_conn.specs.Story.{Setup, World, begun, server_stream, delivered, told_by, came_by, happens}
 use Rattle.ua_conn.specs.declared.schedule.Step.{Step}
 use Rattle.ua_conn.specs.declared.schedule.Step.TheVariants as steps
@@ -28,26 +28,26 @@ one_came a cmds v t h =
     let r = reads_more a cmds v t in
     subst (λ (past : Past). AtMostOne cmds past) (sym r.behind) (one_more cmds r.more (client_reading_of a cmds v).past h)
 
-asks_told : (flight : InFlight) (s : Setup) (w : World) → Asks s w → (act : Act) (o : Option AskFault) → ask_fault flight s.asker w.cmds w.down act ≡ o → Asks s (told_by w act o)
-asks_told flight s w i act (Some reason) e = i
-asks_told flight s w i act None e =
+asks_told : (s : Setup) (w : World) → Asks s w → (act : Act) (o : Option AskFault) → ask_fault s.asker w.cmds w.down act ≡ o → Asks s (told_by w act o)
+asks_told s w i act (Some reason) e = i
+asks_told s w i act None e =
     let c : Command = record { act = act; moment = moment_of w.clock; seen = length w.down } in
     record {
-      one = subst (λ (R : ClientReading). AtMostOne (c ∷ w.cmds) R.past) (sym (reads_same s.asker c w.cmds w.down (frames_within w.down))) (told_one flight s.asker w.cmds w.down c e i.one);
-      ids = omega (arith, ids_left flight s.asker w.cmds w.down act e);
+      one = subst (λ (R : ClientReading). AtMostOne (c ∷ w.cmds) R.past) (sym (reads_same s.asker c w.cmds w.down (frames_within w.down))) (told_one s.asker w.cmds w.down c e i.one);
+      ids = omega (arith, ids_left s.asker w.cmds w.down act e);
     }
 
 asks_down : (s : Setup) (w : World) → Asks s w → (t : List TimedByte) (o : Option ClientFault) → Asks s (came_by w (w.down ++ t) o)
 asks_down s w i t (Some fault) = record { one = one_came s.asker w.cmds w.down t i.one; ids = i.ids }
 asks_down s w i t None = record { one = one_came s.asker w.cmds w.down t i.one; ids = i.ids }
 
-pub asks_kept : (flight : InFlight) (s : Setup) (w : World) → Asks s w → (e : Step) → Asks s (happens flight s w e)
-asks_kept flight s w i (steps.Ask request part) = asks_told flight s w i (Ask request part) (ask_fault flight s.asker w.cmds w.down (Ask request part)) refl
-asks_kept flight s w i steps.Renew = asks_told flight s w i Renew (ask_fault flight s.asker w.cmds w.down Renew) refl
-asks_kept flight s w i steps.Close = asks_told flight s w i Close (ask_fault flight s.asker w.cmds w.down Close) refl
-asks_kept flight s w i (steps.Tick n) = record { one = i.one; ids = i.ids }
-asks_kept flight s w i (steps.Up n) = record { one = i.one; ids = i.ids }
-asks_kept flight s w i (steps.Down n) =
+pub asks_kept : (s : Setup) (w : World) → Asks s w → (e : Step) → Asks s (happens s w e)
+asks_kept s w i (steps.Ask request part) = asks_told s w i (Ask request part) (ask_fault s.asker w.cmds w.down (Ask request part)) refl
+asks_kept s w i steps.Renew = asks_told s w i Renew (ask_fault s.asker w.cmds w.down Renew) refl
+asks_kept s w i steps.Close = asks_told s w i Close (ask_fault s.asker w.cmds w.down Close) refl
+asks_kept s w i (steps.Tick n) = record { one = i.one; ids = i.ids }
+asks_kept s w i (steps.Up n) = record { one = i.one; ids = i.ids }
+asks_kept s w i (steps.Down n) =
     asks_down s w i (map (at (moment_of w.clock)) (take n (drop (length w.down) (server_stream s w)))) (client_fault s.asker w.cmds (delivered w.clock w.down n (server_stream s w)))
 
 pub asks_begun : (s : Setup) → Asks s (begun s)

@@ -1,6 +1,6 @@
 -- What was delivered each way in a story, as frames: the first of what was sent, and less than the next.
 use mathlib.Core.List.{IsPrefix}
-use Rattle.std.proofs.Common.{◌≡◌, ℕ, ◌+◌, ◌<◌, ◌≤◌, ◌^◌, Bool, true, false, not, ◌||◌, ◌&&◌, is_some, List, [], ◌∷◌, ◌++◌, map, length, Option, Some, None, refl, sym, ap, subst, ◌∙◌, arith}
+use Rattle.std.proofs.Common.{◌≡◌, ℕ, ◌+◌, ◌<◌, ◌≤◌, ◌^◌, Bool, true, false, not, ◌||◌, is_some, List, [], ◌∷◌, ◌++◌, map, length, Option, Some, None, refl, sym, ap, subst, ◌∙◌, arith}
 use Rattle.std.specs.List.{AllByRecursion}
 use Rattle.std.specs.Prelude.{◌==◌, nat_le, nat_lt, IfSome, option_map}
 use Rattle.std.proofs.lemmas.Bool.{and_parts, leb-true, ltb-false}
@@ -16,11 +16,11 @@ use Rattle.ua_conn.specs.client.Machine.{or_ack, client_known_after}
 use Rattle.ua_conn.specs.client.Faults.{first_of, broken, or_fault, greatest_answer, is_awaited, acknowledge_rows, client_rows, client_fault_by, token_usable}
 use Rattle.ua_conn.specs.client.Reading.{ClientReading, client_fault_at, client_reading, client_fault, client_reading_of}
 use Rattle.ua_conn.specs.client.Pending.{bytes_in, due_at, wanted_at, come_by}
-use Rattle.ua_conn.specs.client.Asking.{standing, asking_rows, greatest_part, is_too_large, ask_fault, InFlight}
+use Rattle.ua_conn.specs.client.Asking.{standing, asking_rows, greatest_part, is_too_large, ask_fault}
 use Rattle.ua_conn.specs.Story.{delivered, told_by, came_by, happens, Setup, World, client_stream, server_stream}
 use Rattle.ua_conn.specs.declared.schedule.Step.TheVariants as steps
 use Rattle.ua_conn.specs.declared.client.ask_fault.AskFault.{AskFault}
-use Rattle.ua_conn.specs.declared.client.ask_fault.AskFault.TheVariants.{Ended, NotOpen, BadPartLimit, RenewPending, TooManyPending, IdsSpent, TooLarge}
+use Rattle.ua_conn.specs.declared.client.ask_fault.AskFault.TheVariants.{Ended, NotOpen, BadPartLimit, TooManyPending, IdsSpent, TooLarge}
 use Rattle.ua_conn.specs.declared.client.fault.ClientFault.{ClientFault}
 use Rattle.ua_conn.specs.declared.client.fault.ClientFault.TheVariants.{Broken}
 use Rattle.ua_conn.proofs.ClientEnd.KnownLemmas.{client_known_step}
@@ -222,33 +222,33 @@ part_fits a k part most w le = by k.ack w le
     by None w le = omega (arith, le)
     by (Some ack) w le = omega (arith, le, w, most)
 
-told_cut : (flight : InFlight) (a : Asker) (cmds : Commands) (v : List TimedByte) (act : Act) → a.config.buffer ≤ 1048576 → ask_fault flight a cmds v act ≡ None → IsCut act
-told_cut flight a cmds v (Ask request part) most h =
+told_cut : (a : Asker) (cmds : Commands) (v : List TimedByte) (act : Act) → a.config.buffer ≤ 1048576 → ask_fault a cmds v act ≡ None → IsCut act
+told_cut a cmds v (Ask request part) most h =
     let r = client_reading_of a cmds v in
     let s = standing cmds r.past in
-    let rows = asking_rows flight s request part in
+    let rows = asking_rows s request part in
     let asked = behind_first (not s.channel_open) NotOpen rows (behind_first (is_some r.fault) Ended ((not s.channel_open, NotOpen) ∷ rows) h) in
-    let others : List (Bool × AskFault) = (not flight.together && s.renewing, RenewPending) ∷ (nat_le flight.requests s.pending, TooManyPending) ∷ (nat_lt 4294967295 s.next_id, IdsSpent) ∷ (is_too_large s.ack part request, TooLarge) ∷ [] in
+    let others : List (Bool × AskFault) = (nat_le 64 s.pending, TooManyPending) ∷ (nat_lt 4294967295 s.next_id, IdsSpent) ∷ (is_too_large s.ack part request, TooLarge) ∷ [] in
     let limit = row_false (part == 0 || nat_lt (greatest_part s.ack) part) BadPartLimit others asked in
     let short : part ≤ greatest_part s.ack = ltb-false (greatest_part s.ack) part (both_false (part == 0) (nat_lt (greatest_part s.ack) part) limit).1 in
     part_fits a (client_known r.past) part most (reading_within a cmds [] (frames_of v) (plain (rest_of v)) (nothing_within a)) short
-told_cut flight a cmds v Renew most h = tt
-told_cut flight a cmds v Close most h = tt
+told_cut a cmds v Renew most h = tt
+told_cut a cmds v Close most h = tt
 
-cut_told : (flight : InFlight) (s : Setup) (w : World) (act : Act) (o : Option AskFault) → s.asker.config.buffer ≤ 1048576 → ask_fault flight s.asker w.cmds w.down act ≡ o → AreCut w.cmds → AreCut (told_by w act o).cmds
-cut_told flight s w act (Some reason) most e h = h
-cut_told flight s w act None most e h = (told_cut flight s.asker w.cmds w.down act most e, h)
+cut_told : (s : Setup) (w : World) (act : Act) (o : Option AskFault) → s.asker.config.buffer ≤ 1048576 → ask_fault s.asker w.cmds w.down act ≡ o → AreCut w.cmds → AreCut (told_by w act o).cmds
+cut_told s w act (Some reason) most e h = h
+cut_told s w act None most e h = (told_cut s.asker w.cmds w.down act most e, h)
 
 cut_came : (w : World) (v : List TimedByte) (o : Option ClientFault) → AreCut w.cmds → AreCut (came_by w v o).cmds
 cut_came w v (Some fault) h = h
 cut_came w v None h = h
 
-pub cut_kept : (flight : InFlight) (s : Setup) (w : World) (e : Step) → s.asker.config.buffer ≤ 1048576 → AreCut w.cmds → AreCut (happens flight s w e).cmds
-cut_kept flight s w (steps.Ask request part) most h = cut_told flight s w (Ask request part) (ask_fault flight s.asker w.cmds w.down (Ask request part)) most refl h
-cut_kept flight s w steps.Renew most h = cut_told flight s w Renew (ask_fault flight s.asker w.cmds w.down Renew) most refl h
-cut_kept flight s w steps.Close most h = cut_told flight s w Close (ask_fault flight s.asker w.cmds w.down Close) most refl h
-cut_kept flight s w (steps.Tick n) most h = h
-cut_kept flight s w (steps.Up n) most h = h
-cut_kept flight s w (steps.Down n) most h =
+pub cut_kept : (s : Setup) (w : World) (e : Step) → s.asker.config.buffer ≤ 1048576 → AreCut w.cmds → AreCut (happens s w e).cmds
+cut_kept s w (steps.Ask request part) most h = cut_told s w (Ask request part) (ask_fault s.asker w.cmds w.down (Ask request part)) most refl h
+cut_kept s w steps.Renew most h = cut_told s w Renew (ask_fault s.asker w.cmds w.down Renew) most refl h
+cut_kept s w steps.Close most h = cut_told s w Close (ask_fault s.asker w.cmds w.down Close) most refl h
+cut_kept s w (steps.Tick n) most h = h
+cut_kept s w (steps.Up n) most h = h
+cut_kept s w (steps.Down n) most h =
     let v = delivered w.clock w.down n (server_stream s w) in
     cut_came w v (client_fault s.asker w.cmds v) h

@@ -13,7 +13,7 @@ use Rattle.ua_conn.specs.client.Past.{client_known, granted_in, granted_by, resp
 use Rattle.ua_conn.specs.client.Pending.{bytes_in, is_among, opening_id, opened_ids, wanted_at, opening_in, due_at, first_id}
 use Rattle.ua_conn.specs.client.Faults.{is_id, token_usable}
 use Rattle.ua_conn.specs.client.Reading.{client_fault_at, client_reading_of}
-use Rattle.ua_conn.specs.client.Asking.{InFlight, standing, asking_rows, renewing_rows, closing_rows, ask_fault}
+use Rattle.ua_conn.specs.client.Asking.{standing, asking_rows, renewing_rows, closing_rows, ask_fault}
 use Rattle.ua_conn.specs.declared.client.ask_fault.AskFault.TheVariants.{Ended, NotOpen}
 use Rattle.ua_conn.proofs.ClientEnd.FreshLemmas.{all_no, open_due}
 use Rattle.ua_conn.proofs.ClientEnd.RunLemmas.{AtMostOne, opening_step, shorter}
@@ -137,19 +137,19 @@ tokens_left cmds h = omega (arith, h, opens_few cmds)
 -- ---- a command that is accepted
 
 -- has an id that fits,
-pub ids_left : (flight : InFlight) (a : Asker) (cmds : Commands) (v : List TimedByte) (act : Act) → ask_fault flight a cmds v act ≡ None → next_id cmds ≤ 4294967295
-ids_left flight a cmds v act h = by act h
+pub ids_left : (a : Asker) (cmds : Commands) (v : List TimedByte) (act : Act) → ask_fault a cmds v act ≡ None → next_id cmds ≤ 4294967295
+ids_left a cmds v act h = by act h
   where
     r : Past
     r = (client_reading_of a cmds v).past
 
-    by : (act : Act) → ask_fault flight a cmds v act ≡ None → next_id cmds ≤ 4294967295
+    by : (act : Act) → ask_fault a cmds v act ≡ None → next_id cmds ≤ 4294967295
     by (Ask request part) k =
-        let no = all_no ((is_some (client_reading_of a cmds v).fault, Ended) ∷ (not (standing cmds r).channel_open, NotOpen) ∷ asking_rows flight (standing cmds r) request part) k in
-        ltb-false 4294967295 (next_id cmds) no.1.1.1.1.1.0
-    by Renew k =
-        let no = all_no ((is_some (client_reading_of a cmds v).fault, Ended) ∷ (not (standing cmds r).channel_open, NotOpen) ∷ renewing_rows flight (standing cmds r)) k in
+        let no = all_no ((is_some (client_reading_of a cmds v).fault, Ended) ∷ (not (standing cmds r).channel_open, NotOpen) ∷ asking_rows (standing cmds r) request part) k in
         ltb-false 4294967295 (next_id cmds) no.1.1.1.1.0
+    by Renew k =
+        let no = all_no ((is_some (client_reading_of a cmds v).fault, Ended) ∷ (not (standing cmds r).channel_open, NotOpen) ∷ renewing_rows (standing cmds r)) k in
+        ltb-false 4294967295 (next_id cmds) no.1.1.1.0
     by Close k =
         let no = all_no ((is_some (client_reading_of a cmds v).fault, Ended) ∷ (not (standing cmds r).channel_open, NotOpen) ∷ closing_rows (standing cmds r)) k in
         ltb-false 4294967295 (next_id cmds) no.1.1.1.1.0

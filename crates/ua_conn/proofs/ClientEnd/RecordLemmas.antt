@@ -14,7 +14,7 @@ use Rattle.ua_conn.specs.client.Past.{client_known}
 use Rattle.ua_conn.specs.client.Pending.{bytes_in, is_among, ends_one, ended_ids, opened_ids, pending_in, wanted_at, due_in, due_at, first_id}
 use Rattle.ua_conn.specs.client.Faults.{first_of, client_fault_by, token_usable}
 use Rattle.ua_conn.specs.client.Reading.{client_fault_at, client_reading_of}
-use Rattle.ua_conn.specs.client.Asking.{InFlight, standing, standing_by, act_rows, refusal}
+use Rattle.ua_conn.specs.client.Asking.{standing, standing_by, act_rows, refusal}
 use Rattle.ua_conn.specs.client.Held.{commands_of, stream_of, waiting_in, client_held, RefusedByRecord}
 use Rattle.ua_conn.specs.client.Machine.{Awaiting, awaiting_fault, waiting_under, without}
 use Rattle.ua_conn.specs.declared.client.fault.ClientFault.{ClientFault}
@@ -23,14 +23,14 @@ use Rattle.ua_conn.proofs.BothEnds.FaithfulLemmas.{AllSeen}
 
 -- ---- commands
 
-pub refused_by_record : (flight : InFlight) → RefusedByRecord flight
+pub refused_by_record : RefusedByRecord
 unfolding client_held
-refused_by_record flight a log act s =
+refused_by_record a log act s =
     let cmds = commands_of log in
     let r = client_reading_of a cmds (stream_of log) in
     let same : length (waiting_in cmds r.past) ≡ length (pending_in cmds r.past) = length-map (pending_in cmds r.past) (λ w. (w.id, w.request)) in
-    ap (λ (o : Option ClientFault). first_of ((is_some o, Ended) ∷ (not (standing cmds r.past).channel_open, NotOpen) ∷ act_rows flight (standing cmds r.past) act)) s.1
-    ∙ ap (λ (n : ℕ). refusal flight (standing_by (client_known r.past) (is_closed cmds) n (due_in cmds r.past) (next_id cmds)) act) (sym same)
+    ap (λ (o : Option ClientFault). first_of ((is_some o, Ended) ∷ (not (standing cmds r.past).channel_open, NotOpen) ∷ act_rows (standing cmds r.past) act)) s.1
+    ∙ ap (λ (n : ℕ). refusal (standing_by (client_known r.past) (is_closed cmds) n (due_in cmds r.past) (next_id cmds)) act) (sym same)
 
 -- ---- frames
 
