@@ -1,3 +1,4 @@
+pub mod TableLemmas
 pub mod ServerEnd
 pub mod Vectors
 pub mod BothEnds

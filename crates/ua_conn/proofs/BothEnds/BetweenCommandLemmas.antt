@@ -2,6 +2,7 @@
 use Rattle.std.proofs.Common.{◌≡◌, ℕ, ℤ, ◌≤◌, max, Bool, true, false, List, [], ◌∷◌, ◌++◌, map, length, Option, Some, None, refl, sym, ap, subst, ◌∙◌, true≢false, arith}
 use Rattle.std.specs.Prelude.{not, is_some}
 use Rattle.std.proofs.lemmas.List.{append-nil, map-append, length-append}
+use Rattle.ua_frame.specs.Rows.{first_row}
 use Rattle.ua_frame.specs.Streams.{moment_of}
 use Rattle.ua_service.specs.declared.request.Request.{Request}
 use Rattle.ua_conn.specs.client.Asker.{Asker}
@@ -9,7 +10,6 @@ use Rattle.ua_conn.specs.client.Commands.{Act, Ask, Renew, Close, Command, Comma
 use Rattle.ua_conn.specs.client.Reading.{client_reading_of, matched}
 use Rattle.ua_conn.specs.client.Sending.{client_bytes}
 use Rattle.ua_conn.specs.client.Asking.{act_rows, standing, ask_fault}
-use Rattle.ua_conn.specs.client.Faults.{first_of}
 use Rattle.ua_conn.specs.client.Held.{Log, Told, IsLog, commands_of, stream_of, latest_of, fault_in, refused_in, client_held}
 use Rattle.ua_conn.specs.client.Machine.{client_gain}
 use Rattle.ua_conn.specs.client.Feeding.{ClientShown, Lived, Accepts, AcceptsAll, RefusedBy}
@@ -127,7 +127,7 @@ refused_between s w r act client fault b kept m refused = subst (λ (k : ClientS
     by (Lives log l shows) =
         stays fault ((λ i. ask_fault s.asker (sym l.commands i) (sym l.stream i) act) ∙ refusal_says r.client act fault l.alive m refused s.asker log l.lived)
     by (Failed f failed is shows) =
-        stays reasons.Ended (ap (λ (o : Option ClientFault). first_of ((is_some o, reasons.Ended) ∷ (not (standing w.cmds (client_reading_of s.asker w.cmds w.down).past).channel_open, reasons.NotOpen) ∷ act_rows (standing w.cmds (client_reading_of s.asker w.cmds w.down).past) act)) is)
+        stays reasons.Ended (ap (λ (o : Option ClientFault). first_row ((is_some o, reasons.Ended) ∷ (not (standing w.cmds (client_reading_of s.asker w.cmds w.down).past).channel_open, reasons.NotOpen) ∷ act_rows (standing w.cmds (client_reading_of s.asker w.cmds w.down).past) act)) is)
 
 -- a command at the clock's number, as its call shows it
 

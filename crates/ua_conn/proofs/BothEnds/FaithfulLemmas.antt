@@ -3,11 +3,12 @@ use mathlib.Core.List.{IsPrefix}
 use Rattle.std.proofs.Common.{◌≡◌, ℕ, ◌≤◌, Bool, true, false, List, [], ◌∷◌, ◌++◌, map, take, drop, length, Option, Some, None, refl, sym, ap, subst, ◌∙◌, arith, append_assoc, ◌⊎◌, inl, inr}
 use Rattle.std.specs.Prelude.{ℤ, ◌==◌, ◌&&◌, not, is_some, option_map}
 use Rattle.std.proofs.lemmas.List.{append-nil, take-append-drop, length-append}
+use Rattle.std.proofs.lemmas.Bool.{not-false}
+use Rattle.ua_frame.specs.Rows.{first_row}
 use Rattle.ua_frame.specs.Streams.{TimedByte, at, plain, moment_of, rest_of}
 use Rattle.ua_frame.specs.StreamLaws.{plain_at, plain_append, length_plain}
 use Rattle.ua_frame.specs.Layout.{Frame, kind_of, flag_of, frames_of}
 use Rattle.ua_frame.specs.HeaderRows.{header_fault}
-use Rattle.ua_frame.specs.declared.kind.Kind.{Kind}
 use Rattle.ua_frame.specs.declared.kind.Kind.TheVariants as kinds
 use Rattle.ua_chunk.specs.Numbers.{number_after}
 use Rattle.ua_channel.specs.declared.token.Token.{Token}
@@ -19,7 +20,7 @@ use Rattle.ua_conn.specs.client.Asker.{Asker}
 use Rattle.ua_conn.specs.client.Commands.{Act, Ask, Renew, Close, Command, Commands, next_id, is_closed}
 use Rattle.ua_conn.specs.client.Past.{client_known, granted_in, ack_by, or_frame, acknowledge_frame_in, is_acknowledge_frame}
 use Rattle.ua_conn.specs.client.Pending.{bytes_in, come_by, due_at, wanted_at}
-use Rattle.ua_conn.specs.client.Faults.{first_of, or_fault, greatest_answer, client_rows, awaited_rows, client_fault_by, is_awaited, token_usable}
+use Rattle.ua_conn.specs.client.Faults.{greatest_answer, client_rows, client_fault_by, is_awaited, token_usable}
 use Rattle.ua_conn.specs.client.Reading.{ClientReading, client_fault_at, client_reading, client_reading_of, client_fault}
 use Rattle.ua_conn.specs.client.Sending.{Sent, sent_bytes, more_sent, sent_after, sent_all, greets, opens, opens_by, act_says, commands_say, sent_by, client_bytes}
 use Rattle.ua_conn.specs.client.Asking.{standing, act_rows, ask_fault}
@@ -31,6 +32,8 @@ use Rattle.ua_conn.specs.declared.client.ask_fault.AskFault.{AskFault}
 use Rattle.ua_conn.specs.declared.client.fault.ClientFault.{ClientFault}
 use Rattle.ua_conn.specs.declared.client.fault.ClientFault.TheVariants.{Broken}
 use Rattle.ua_conn.specs.declared.client.ask_fault.AskFault.TheVariants.{Ended, NotOpen}
+use Rattle.ua_conn.proofs.ClientEnd.FreshLemmas.{is_open_tells}
+use Rattle.ua_conn.proofs.TableLemmas.{all_no, or_none}
 use Rattle.ua_conn.proofs.ServerEnd.GrowthLemmas.{reply_grows}
 use Rattle.ua_conn.proofs.ClientEnd.PlaceLemmas.{AllBehind, AllWithin, frames_within, later_frames, come_by_same, behind_less, behind_weaker}
 use Rattle.ua_conn.proofs.ClientEnd.ReadingLemmas.{ReadsOn, reads_more, reads_same}
@@ -150,44 +153,17 @@ started_later a cmds v t (acknowledged f e) =
 abbrev IsAcked : Past → Type 0
 IsAcked past = (granted_in past ≡ []) ⊎ ((f : Frame) × (acknowledge_frame_in past ≡ Some f))
 
-is_open_tells : (kind : Option Kind) → is_open kind ≡ true → kind ≡ Some kinds.Open
-is_open_tells None h = absurd (cc h)
-is_open_tells (Some kinds.Hello) h = absurd (cc h)
-is_open_tells (Some kinds.Acknowledge) h = absurd (cc h)
-is_open_tells (Some kinds.Error) h = absurd (cc h)
-is_open_tells (Some kinds.ReverseHello) h = absurd (cc h)
-is_open_tells (Some kinds.Open) h = refl
-is_open_tells (Some kinds.Message) h = absurd (cc h)
-is_open_tells (Some kinds.Close) h = absurd (cc h)
-
-or_none : (x y : Option ClientFault) → or_fault x y ≡ None → y ≡ None
-or_none None y h = h
-or_none (Some fault) y h = absurd (cc h)
-
-first_row_fails : {S : Type 0} (b : Bool) (x : S) (rows : List (Bool × S)) → first_of ((b, x) ∷ rows) ≡ None → b ≡ false
-first_row_fails true x rows h = absurd (cc h)
-first_row_fails false x rows h = refl
-
-second_row_fails : {S : Type 0} (b c : Bool) (x y : S) (rows : List (Bool × S)) → first_of ((b, x) ∷ (c, y) ∷ rows) ≡ None → c ≡ false
-second_row_fails true c x y rows h = absurd (cc h)
-second_row_fails false c x y rows h = first_row_fails c y rows h
-
-not_false : (b : Bool) → not b ≡ false → b ≡ true
-not_false true h = refl
-not_false false h = absurd (cc h)
-
 -- an OPN is awaited behind an Acknowledge alone
 awaited_open : (a : Asker) (past : Past) (due : Option ℕ) (wanted : Option Request) (usable : Bool) (f : Frame) → client_fault_by a (client_known past) due wanted usable f ≡ None → kind_of f.bytes ≡ Some kinds.Open →
     (g : Frame) × (acknowledge_frame_in past ≡ Some g)
 unfolding client_fault_by client_known
 awaited_open a past due wanted usable f h kind = by (acknowledge_frame_in past) refl
   where
-    rows : first_of (client_rows a (client_known past) due wanted usable f (flag_of f.bytes) (Some kinds.Open)) ≡ None
-    rows = ap (λ k. first_of (client_rows a (client_known past) due wanted usable f (flag_of f.bytes) k)) (sym kind) ∙ or_none (option_map Broken (header_fault (greatest_answer (client_known past).ack) f.bytes)) (first_of (client_rows a (client_known past) due wanted usable f (flag_of f.bytes) (kind_of f.bytes))) h
+    rows : first_row (client_rows a (client_known past) due wanted usable f (flag_of f.bytes) (Some kinds.Open)) ≡ None
+    rows = ap (λ k. first_row (client_rows a (client_known past) due wanted usable f (flag_of f.bytes) k)) (sym kind) ∙ or_none (option_map Broken (header_fault (greatest_answer (client_known past).ack) f.bytes)) (first_row (client_rows a (client_known past) due wanted usable f (flag_of f.bytes) (kind_of f.bytes))) h
 
     awaited : is_awaited (client_known past) due (Some kinds.Open) ≡ true
-    awaited = not_false (is_awaited (client_known past) due (Some kinds.Open))
-        (first_row_fails (not (is_awaited (client_known past) due (Some kinds.Open))) (Broken 0x807E0000) (awaited_rows a (client_known past) due wanted usable f (flag_of f.bytes) (Some kinds.Open)) rows)
+    awaited = not-false (is_awaited (client_known past) due (Some kinds.Open)) (all_no (client_rows a (client_known past) due wanted usable f (flag_of f.bytes) (Some kinds.Open)) rows).0
 
     by : (o : Option Frame) → acknowledge_frame_in past ≡ o → (g : Frame) × (acknowledge_frame_in past ≡ Some g)
     by (Some g) e = (g, e)
@@ -224,8 +200,8 @@ accepted_acked a cmds v act h = by (acked a cmds [] (frames_of v) (plain (rest_o
     P = (client_reading_of a cmds v).past
 
     is_there : (standing cmds P).channel_open ≡ true
-    is_there = not_false (standing cmds P).channel_open
-        (second_row_fails (is_some (client_reading_of a cmds v).fault) (not (standing cmds P).channel_open) Ended NotOpen (act_rows (standing cmds P) act) h)
+    is_there = not-false (standing cmds P).channel_open
+        (all_no ((is_some (client_reading_of a cmds v).fault, Ended) ∷ (not (standing cmds P).channel_open, NotOpen) ∷ act_rows (standing cmds P) act) h).1.0
 
     by : IsAcked P → (f : Frame) × (acknowledge_frame_in P ≡ Some f)
     by (inr g) = g

@@ -4,7 +4,7 @@ use Rattle.std.proofs.Common.{◌≡◌, ℕ, ◌+◌, ◌≤◌, Bool, true, fa
 use Rattle.std.specs.Prelude.{◌==◌, ◌&&◌, not}
 use Rattle.std.specs.List.{filter, find}
 use Rattle.std.proofs.lemmas.List.{length-append, length-map}
-use Rattle.std.proofs.lemmas.Bool.{le-leb, ne_eqb, eqb-true, or_parts}
+use Rattle.std.proofs.lemmas.Bool.{le-leb, ne_eqb, eqb-true, or_parts, not-false}
 use Rattle.ua_frame.specs.Streams.{TimedByte}
 use Rattle.ua_frame.specs.Layout.{Frame, frames_of, kind_of, flag_of}
 use Rattle.ua_frame.specs.declared.kind.Kind.TheVariants as kinds
@@ -20,7 +20,8 @@ use Rattle.ua_conn.specs.client.Past.{ClientKnown, client_known, ack_by, acknowl
 use Rattle.ua_conn.specs.client.Pending.{bytes_in, come_by, due_at, wanted_at}
 use Rattle.ua_conn.specs.client.Faults.{client_rows, opened_rows}
 use Rattle.ua_conn.specs.BothEnds.{AllAfter}
-use Rattle.ua_conn.proofs.ClientEnd.FreshLemmas.{AllNo, all_no, is_open_tells, not_false, rows_of_kind}
+use Rattle.ua_conn.proofs.TableLemmas.{AllNo, all_no}
+use Rattle.ua_conn.proofs.ClientEnd.FreshLemmas.{is_open_tells, rows_of_kind}
 use Rattle.ua_conn.proofs.ClientEnd.PlaceLemmas.{bytes_of_frames}
 use Rattle.ua_conn.proofs.BothEnds.AliveLemmas.{client_tokens}
 use Rattle.ua_conn.proofs.BothEnds.ClientWalkLemmas.{granted_more}
@@ -123,7 +124,7 @@ channel_stays a cmds past f h some = by (is_open (kind_of f.bytes)) refl
     named (Some opening) n =
         let other = or_parts (opening.channel == 0) (not (length k.tokens == 0) && not (opening.channel == k.channel)) n.0 in
         let differs : not (opening.channel == k.channel) ≡ false = ap (λ b. not b && not (opening.channel == k.channel)) (sym some_tokens) ∙ other.1 in
-        eqb-true opening.channel k.channel (not_false (opening.channel == k.channel) differs) ∙ known_channel past
+        eqb-true opening.channel k.channel (not-false (opening.channel == k.channel) differs) ∙ known_channel past
 
     by : (b : Bool) → is_open (kind_of f.bytes) ≡ b → channel_by (cond b (Some f) (find (λ (g : Frame). is_open (kind_of g.bytes)) past)) ≡ channel_in past
     by true e = named (open_in f) (opened e)

@@ -34,7 +34,7 @@ use Rattle.ua_conn.specs.server.Machine.{known_after}
 use Rattle.ua_conn.specs.server.Effects.{answers}
 use Rattle.ua_conn.specs.server.Parts.{whole_with}
 use Rattle.ua_conn.specs.BothEnds.{AllAfter, Served, served_by}
-use Rattle.ua_conn.proofs.ServerEnd.TableLemmas.{join_none}
+use Rattle.ua_conn.proofs.TableLemmas.{join_none}
 use Rattle.ua_conn.proofs.ServerEnd.KnownLemmas.{known_step, newest}
 use Rattle.ua_conn.proofs.BothEnds.OnTheWayLemmas.{Sound}
 use Rattle.ua_conn.proofs.BothEnds.SpokenLemmas.{Spoken, Opens, Tells, Closes, spell, parts_of, IsSized, IsFlagged, IsProper, size_by, spell_passes, IsRead, is_read}

@@ -1,7 +1,7 @@
 -- Answers between both ends: what the client reads of them, and which of them are aborted.
-use Rattle.std.proofs.Common.{◌≡◌, ℕ, ◌<◌, ◌≤◌, ◌^◌, max, min, Bool, true, false, cond, not, ◌&&◌, ◌||◌, List, [], ◌∷◌, length, Option, Some, None, refl, sym, ap, subst, ◌∙◌, arith, lit<, inl, inr}
+use Rattle.std.proofs.Common.{◌≡◌, ℕ, ◌<◌, ◌≤◌, ◌^◌, max, min, Bool, true, false, cond, not, ◌&&◌, List, [], ◌∷◌, length, Option, Some, None, refl, sym, ap, subst, ◌∙◌, arith, lit<, inl, inr}
 use Rattle.std.specs.Prelude.{◌==◌, nat_lt, pos}
-use Rattle.std.proofs.lemmas.Bool.{cases_Bool, ltb-false, eqb-true}
+use Rattle.std.proofs.lemmas.Bool.{cases_Bool, ltb-false, eqb-true, or_parts}
 use Rattle.ua_value.specs.Number.{unsigned}
 use Rattle.ua_frame.specs.Rows.{first_row}
 use Rattle.ua_frame.specs.Hello.{acknowledge_layout, negotiated}
@@ -50,10 +50,6 @@ revised_fits asked = by (asked == 0)
 
 -- ---- limits of the Hello
 
-both_false : (a b : Bool) → (a || b) ≡ false → (a ≡ false) × (b ≡ false)
-both_false true b h = absurd cc
-both_false false b h = (refl, h)
-
 not_over : (limit n : ℕ) → 1 ≤ limit → is_over limit n ≡ false → n ≤ limit
 not_over limit n some h = elim (cases_Bool (limit == 0)) [
   | inl none ↦ absurd (let e : limit ≡ 0 = eqb-true limit 0 none in omega (arith, e, some))
@@ -64,7 +60,7 @@ not_over limit n some h = elim (cases_Bool (limit == 0)) [
 pub answer_arrives : (a : Agreed) (id : ℕ) (body : List ℕ) → is_over_limits a body ≡ false → 1 ≤ a.answer_bytes → 1 ≤ a.answer_parts → 25 ≤ a.ack.send
     → Arrives a.answer_bytes a.answer_parts id body None (answer_parts a id body)
 answer_arrives a id body over bytes parts send =
-    let sides = both_false _ _ over in
+    let sides = or_parts _ _ over in
     let arrives = fill_arrives a.answer_bytes a.answer_parts id (part_size a) body (omega (arith, send)) (not_over a.answer_bytes (length body) bytes sides.0) (not_over a.answer_parts (part_count (length body) (part_size a)) parts sides.1) in
     subst (λ b. Arrives a.answer_bytes a.answer_parts id body None (cond b (aborted id 0x80B90000 ∷ []) (fill id body (part_size a)))) (sym over) arrives
 

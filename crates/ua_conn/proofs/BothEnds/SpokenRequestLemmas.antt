@@ -23,7 +23,7 @@ use Rattle.ua_conn.specs.server.Effects.{Effect}
 use Rattle.ua_conn.specs.server.Parts.{whole_with}
 use Rattle.ua_conn.proofs.ServerEnd.KnownLemmas.{known_step}
 use Rattle.ua_conn.proofs.ServerEnd.TypeLemmas.{IsEffect}
-use Rattle.ua_conn.proofs.ServerEnd.TableLemmas.{join_none}
+use Rattle.ua_conn.proofs.TableLemmas.{join_none}
 use Rattle.ua_conn.proofs.BothEnds.SpokenLemmas.{Spoken, Tells, spell}
 use Rattle.ua_conn.proofs.BothEnds.SpokenEffectLemmas.{chunk_by}
 

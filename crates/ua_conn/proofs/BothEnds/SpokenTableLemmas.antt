@@ -15,7 +15,7 @@ use Rattle.ua_chunk.specs.FrameLaws.{abort_read}
 use Rattle.ua_channel.specs.Token.{two_newest}
 use Rattle.ua_channel.specs.declared.token.Token.{Token}
 use Rattle.ua_channel.specs.Admission.{follows_last, is_text, admit_rows_by}
-use Rattle.ua_frame.specs.Rows.{Row}
+use Rattle.ua_frame.specs.Rows.{Row, first_row, or_else}
 use Rattle.ua_channel.specs.ClientChannel.{names_other}
 use Rattle.ua_service.specs.declared.channel.OpenResponse.{OpenResponse}
 use Rattle.ua_service.specs.declared.request.Request.{Request}
@@ -29,7 +29,7 @@ use Rattle.ua_conn.specs.client.Reading.{result_by, answer_with, answer_at}
 use Rattle.ua_conn.specs.server.Replies.{aborted}
 use Rattle.ua_conn.specs.declared.client.answer.AnswerResult.TheVariants.{Response as Responds, Aborted}
 use Rattle.ua_conn.specs.client.Past.{ClientKnown, client_channel, acknowledge_in, response_in, granted_by, channel_named}
-use Rattle.ua_conn.specs.client.Faults.{first_of, broken, or_fault, greatest_answer, is_awaited, acknowledge_rows, opened_rows, response_rows, whole_rows, whole_response, fits, answer_rows, client_rows, client_fault_by}
+use Rattle.ua_conn.specs.client.Faults.{broken, greatest_answer, is_awaited, acknowledge_rows, opened_rows, response_rows, whole_rows, whole_response, fits, answer_rows, client_rows, client_fault_by}
 use Rattle.ua_conn.specs.declared.client.fault.ClientFault.TheVariants.{ServerSaid, Broken}
 use Rattle.ua_conn.proofs.BothEnds.SpokenLemmas.{Spoken, Acknowledges, Opens, Tells, spell, parts_of, IsSized, IsFlagged, IsProper, size_by, spell_passes, IsRead, is_read}
 use Rattle.ua_conn.proofs.BothEnds.SpokenEffectLemmas.{opening_of, chunk_by}
@@ -38,12 +38,12 @@ use Rattle.ua_conn.proofs.BothEnds.SpokenTurnLemmas.{text_same}
 
 -- The whole table of a client, at a frame that is no greater than what it takes: the rows of the value's type and flag.
 pub heard_fault : (a : Asker) (k : ClientKnown) (due : Option ℕ) (wanted : Option Request) (usable : Bool) (f : Frame) (x : Spoken) → f.bytes ≡ spell x → IsSized x → IsFlagged x → IsProper x → size_by x ≤ greatest_answer k.ack
-    → client_fault_by a k due wanted usable f ≡ first_of (client_rows a k due wanted usable f (parts_of x).flag (Some (parts_of x).kind))
+    → client_fault_by a k due wanted usable f ≡ first_row (client_rows a k due wanted usable f (parts_of x).flag (Some (parts_of x).kind))
 unfolding client_fault_by
 heard_fault a k due wanted usable f x e short flag is within =
     let head : header_fault (greatest_answer k.ack) f.bytes ≡ None = ap (header_fault (greatest_answer k.ack)) e ∙ spell_passes (greatest_answer k.ack) x short flag within in
     let read = is_read f x e short is in
-    λ i. or_fault (option_map Broken (head i)) (first_of (client_rows a k due wanted usable f (read.flag i) (read.kind i)))
+    λ i. or_else (option_map Broken (head i)) (first_row (client_rows a k due wanted usable f (read.flag i) (read.kind i)))
 
 -- ---- an ACK
 
@@ -65,7 +65,7 @@ acknowledge_heard a due wanted usable ack f e is p q r s =
     let read : acknowledge_in f ≡ Some ack = (is_read f x e tt is).says in
     let fine = sizes_fit a ack p q r s in
     heard_fault a unacknowledged due wanted usable f x e tt refl is (lit≤ tt)
-    ∙ ap (λ o. first_of (broken (acknowledge_rows a o))) read
+    ∙ ap (λ o. first_row (broken (acknowledge_rows a o))) read
     ∙ (λ i. cond (not (fine i)) (Some (Broken 0x80810000)) None)
 
 -- ---- an OPN
@@ -93,9 +93,9 @@ opened_heard a ack known channel tokens last wanted usable number id body r f e 
     let asked : (id == id) ≡ true = eq-eqb id id refl in
     let named : (r.channel_id == channel) ≡ true = eq-eqb r.channel_id channel same in
     heard_fault a k (Some id) wanted usable f x e sized refl (c, n, i) (omega (arith, short, room))
-    ∙ ap (λ o. cond (not (is_awaited k (Some id) (Some kinds.Open))) (Some (Broken 0x807E0000)) (first_of (opened_rows k (Some id) o))) read
+    ∙ ap (λ o. cond (not (is_awaited k (Some id) (Some kinds.Open))) (Some (Broken 0x807E0000)) (first_row (opened_rows k (Some id) o))) read
     ∙ ap (λ o. cond (not (is_awaited k (Some id) (Some kinds.Open))) (Some (Broken 0x807E0000)) (cond (names_other (client_channel k) channel) (Some (Broken 0x807F0000))
-    (cond (not (is_text policy_none (Some policy_none))) (Some (Broken 0x80550000)) (cond (not (follows_last last number)) (Some (Broken 0x80880000)) (cond (not (id == id)) (Some (Broken 0x80090000)) (first_of (response_rows channel o))))))) is
+    (cond (not (is_text policy_none (Some policy_none))) (Some (Broken 0x80550000)) (cond (not (follows_last last number)) (Some (Broken 0x80880000)) (cond (not (id == id)) (Some (Broken 0x80090000)) (first_row (response_rows channel o))))))) is
     ∙ (λ j. cond (not (awaited j)) (Some (Broken 0x807E0000)) (cond (own j) (Some (Broken 0x807F0000)) (cond (not (text j)) (Some (Broken 0x80550000)) (cond (not (follow j)) (Some (Broken 0x80880000))
     (cond (not (asked j)) (Some (Broken 0x80090000)) (cond (good j) (Some (ServerSaid r.header.service_result.0 None)) (cond (not (named j)) (Some (Broken 0x807F0000)) None)))))))
 
@@ -105,13 +105,13 @@ opened_heard a ack known channel tokens last wanted usable number id body r f e 
 abbrev pub last_rows : Option Request → ℕ → Option Response → List Row
 last_rows wanted flag response = cond (flag == 70) (whole_rows wanted response) []
 
-broken_none : (rows more : List Row) → first_of (broken rows) ≡ None → first_of (broken more) ≡ None → first_of (broken (rows ++ more)) ≡ None
+broken_none : (rows more : List Row) → first_row (broken rows) ≡ None → first_row (broken more) ≡ None → first_row (broken (rows ++ more)) ≡ None
 broken_none [] more h k = k
 broken_none ((true, status) ∷ rows) more h k = absurd cc
 broken_none ((false, status) ∷ rows) more h k = broken_none rows more h k
 
-answers_none : (a : Asker) (k : ClientKnown) (request : Request) (flag : ℕ) (c : Chunk) → NoPartRow a.config.max_message a.config.max_chunks k.half flag c.request_id c.body → first_of (broken (last_rows (Some request) flag (whole_response k c))) ≡ None
-    → first_of (broken (answer_rows a k (Some request) flag c)) ≡ None
+answers_none : (a : Asker) (k : ClientKnown) (request : Request) (flag : ℕ) (c : Chunk) → NoPartRow a.config.max_message a.config.max_chunks k.half flag c.request_id c.body → first_row (broken (last_rows (Some request) flag (whole_response k c))) ≡ None
+    → first_row (broken (answer_rows a k (Some request) flag c)) ≡ None
 answers_none a k request flag c h last =
     λ i. cond (h.id i) (Some (Broken 0x807E0000)) (cond (h.size i) (Some (Broken 0x80800000)) (cond (h.abort i) (Some (Broken 0x80070000)) (last i)))
 
@@ -120,7 +120,7 @@ pub part_heard : (a : Asker) (ack : Ack) (channel : ℕ) (tokens : List Token) (
     → f.bytes ≡ spell (Tells channel token number p) → flag_fits kinds.Message p.flag ≡ true → 24 + length p.bytes ≤ ack.send → ack.send < 2 ^ 32
     → channel < 2 ^ 32 → token < 2 ^ 32 → number < 2 ^ 32 → p.id < 2 ^ 32 → 0 < length tokens → follows_last last number ≡ true
     → NoPartRow a.config.max_message a.config.max_chunks half p.flag p.id p.bytes
-    → first_of (broken (last_rows (Some request) p.flag (response_of (body_of half ++ p.bytes)))) ≡ None
+    → first_row (broken (last_rows (Some request) p.flag (response_of (body_of half ++ p.bytes)))) ≡ None
     → client_fault_by a (hears ack channel tokens last half) due (Some request) true f ≡ None
 part_heard a ack channel tokens last half due request token number p f e flag within fits ch t n i some follow rows whole =
     let k = hears ack channel tokens last half in
@@ -130,23 +130,23 @@ part_heard a ack channel tokens last half due request token number p f e flag wi
     let read : chunk_of (fields_of f.bytes) ≡ Some c = (is_read f x e sized (ch, t, n, i)).says in
     let awaited : is_awaited k due (Some kinds.Message) ≡ true = ap (λ b. cond b false true) (some_tokens tokens some) in
     let own : (channel == channel) ≡ true = eq-eqb channel channel refl in
-    let admits : first_of (broken ((is_none (Some c), 0x80070000) ∷ admit_rows_by (client_channel k) c true)) ≡ None =
+    let admits : first_row (broken ((is_none (Some c), 0x80070000) ∷ admit_rows_by (client_channel k) c true)) ≡ None =
     λ j. cond (not (own j)) (Some (Broken 0x807F0000)) (cond (not (follow j)) (Some (Broken 0x80880000)) None) in
     heard_fault a k due (Some request) true f x e sized flag (ch, t, n, i) within
-    ∙ ap (λ o. cond (not (is_awaited k due (Some kinds.Message))) (Some (Broken 0x807E0000)) (first_of (broken (((is_none o, 0x80070000) ∷ admit_rows_by (client_channel k) (or_empty o) true) ++ answer_rows a k (Some request) p.flag (or_empty o))))) read
-    ∙ ap (λ b. cond (not b) (Some (Broken 0x807E0000)) (first_of (broken (((is_none (Some c), 0x80070000) ∷ admit_rows_by (client_channel k) c true) ++ answer_rows a k (Some request) p.flag c)))) awaited
+    ∙ ap (λ o. cond (not (is_awaited k due (Some kinds.Message))) (Some (Broken 0x807E0000)) (first_row (broken (((is_none o, 0x80070000) ∷ admit_rows_by (client_channel k) (or_empty o) true) ++ answer_rows a k (Some request) p.flag (or_empty o))))) read
+    ∙ ap (λ b. cond (not b) (Some (Broken 0x807E0000)) (first_row (broken (((is_none (Some c), 0x80070000) ∷ admit_rows_by (client_channel k) c true) ++ answer_rows a k (Some request) p.flag c)))) awaited
     ∙ broken_none ((is_none (Some c), 0x80070000) ∷ admit_rows_by (client_channel k) c true) (answer_rows a k (Some request) p.flag c) admits (answers_none a k request p.flag c rows whole)
 
 -- before the last part nothing more is read,
-pub more_heard : (request : Request) (flag : ℕ) (o : Option Response) → (flag == 70) ≡ false → first_of (broken (last_rows (Some request) flag o)) ≡ None
-more_heard request flag o h = ap (λ b. first_of (broken (cond b (whole_rows (Some request) o) []))) h
+pub more_heard : (request : Request) (flag : ℕ) (o : Option Response) → (flag == 70) ≡ false → first_row (broken (last_rows (Some request) flag o)) ≡ None
+more_heard request flag o h = ap (λ b. first_row (broken (cond b (whole_rows (Some request) o) []))) h
 
 -- and with it the response, of a kind that fits the request.
-pub whole_heard : (request : Request) (flag : ℕ) (o : Option Response) (r : Response) → o ≡ Some r → fits request r ≡ true → first_of (broken (last_rows (Some request) flag o)) ≡ None
+pub whole_heard : (request : Request) (flag : ℕ) (o : Option Response) (r : Response) → o ≡ Some r → fits request r ≡ true → first_row (broken (last_rows (Some request) flag o)) ≡ None
 whole_heard request flag o r e h = by (flag == 70)
   where
-    by : (b : Bool) → first_of (broken (cond b (whole_rows (Some request) o) [])) ≡ None
-    by true = ap (λ q. first_of (broken (whole_rows (Some request) q))) e ∙ (λ i. cond (not (h i)) (Some (Broken 0x80090000)) None)
+    by : (b : Bool) → first_row (broken (cond b (whole_rows (Some request) o) [])) ≡ None
+    by true = ap (λ q. first_row (broken (whole_rows (Some request) q))) e ∙ (λ i. cond (not (h i)) (Some (Broken 0x80090000)) None)
     by false = refl
 
 -- ---- all parts of an answer

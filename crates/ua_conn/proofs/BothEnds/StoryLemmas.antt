@@ -1,9 +1,10 @@
 -- What was delivered each way in a story, as frames: the first of what was sent, and less than the next.
 use mathlib.Core.List.{IsPrefix}
-use Rattle.std.proofs.Common.{◌≡◌, ℕ, ◌+◌, ◌<◌, ◌≤◌, ◌^◌, Bool, true, false, not, ◌||◌, is_some, List, [], ◌∷◌, ◌++◌, map, length, Option, Some, None, refl, sym, ap, subst, ◌∙◌, arith}
+use Rattle.std.proofs.Common.{◌≡◌, ℕ, ◌+◌, ◌<◌, ◌≤◌, ◌^◌, Bool, true, false, not, is_some, List, [], ◌∷◌, ◌++◌, map, length, Option, Some, None, refl, sym, ap, subst, ◌∙◌, arith}
 use Rattle.std.specs.List.{AllByRecursion}
 use Rattle.std.specs.Prelude.{◌==◌, nat_le, nat_lt, IfSome, option_map}
-use Rattle.std.proofs.lemmas.Bool.{and_parts, leb-true, ltb-false}
+use Rattle.std.proofs.lemmas.Bool.{and_parts, leb-true, ltb-false, not-false, or_parts}
+use Rattle.ua_frame.specs.Rows.{first_row}
 use Rattle.ua_frame.specs.Layout.{kind_of, flag_of, frames_of, Frame}
 use Rattle.ua_frame.specs.Streams.{rest_of, TimedByte, plain}
 use Rattle.ua_frame.specs.HeaderRows.{header_fault}
@@ -13,16 +14,17 @@ use Rattle.ua_frame.specs.declared.acknowledge.Ack.{Ack}
 use Rattle.ua_conn.specs.Past.{carried, Past}
 use Rattle.ua_conn.specs.client.Past.{is_acknowledge, is_acknowledge_frame, acknowledge_in, ClientKnown, client_known, acknowledge_frame_in}
 use Rattle.ua_conn.specs.client.Machine.{or_ack, client_known_after}
-use Rattle.ua_conn.specs.client.Faults.{first_of, broken, or_fault, greatest_answer, is_awaited, acknowledge_rows, client_rows, client_fault_by, token_usable}
+use Rattle.ua_conn.specs.client.Faults.{broken, greatest_answer, is_awaited, acknowledge_rows, client_rows, client_fault_by, token_usable}
 use Rattle.ua_conn.specs.client.Reading.{ClientReading, client_fault_at, client_reading, client_fault, client_reading_of}
 use Rattle.ua_conn.specs.client.Pending.{bytes_in, due_at, wanted_at, come_by}
-use Rattle.ua_conn.specs.client.Asking.{standing, asking_rows, greatest_part, is_too_large, ask_fault}
+use Rattle.ua_conn.specs.client.Asking.{standing, asking_rows, greatest_part, ask_fault}
 use Rattle.ua_conn.specs.Story.{delivered, told_by, came_by, happens, Setup, World, client_stream, server_stream}
 use Rattle.ua_conn.specs.declared.schedule.Step.TheVariants as steps
 use Rattle.ua_conn.specs.declared.client.ask_fault.AskFault.{AskFault}
-use Rattle.ua_conn.specs.declared.client.ask_fault.AskFault.TheVariants.{Ended, NotOpen, BadPartLimit, TooManyPending, IdsSpent, TooLarge}
+use Rattle.ua_conn.specs.declared.client.ask_fault.AskFault.TheVariants.{Ended, NotOpen}
 use Rattle.ua_conn.specs.declared.client.fault.ClientFault.{ClientFault}
 use Rattle.ua_conn.specs.declared.client.fault.ClientFault.TheVariants.{Broken}
+use Rattle.ua_conn.proofs.TableLemmas.{all_no, or_none, first_passes}
 use Rattle.ua_conn.proofs.ClientEnd.KnownLemmas.{client_known_step}
 use Rattle.ua_frame.specs.Hello.{is_long, is_acceptable, is_size}
 use Rattle.ua_frame.specs.Beginnings.{joined}
@@ -139,30 +141,10 @@ up_begins s w p url cut =
 Within : Asker → ClientKnown → Type 0
 Within a k = IfSome k.ack (λ ack. ack.receive ≤ a.config.buffer)
 
-or_none : (x y : Option ClientFault) → or_fault x y ≡ None → y ≡ None
-or_none None y h = h
-or_none (Some fault) y h = absurd cc
-
-behind_first : {S : Type 0} (b : Bool) (x : S) (rows : List (Bool × S)) → first_of ((b, x) ∷ rows) ≡ None → first_of rows ≡ None
-behind_first true x rows h = absurd cc
-behind_first false x rows h = h
-
-row_false : {S : Type 0} (b : Bool) (x : S) (rows : List (Bool × S)) → first_of ((b, x) ∷ rows) ≡ None → b ≡ false
-row_false true x rows h = absurd cc
-row_false false x rows h = refl
-
-not_false : (b : Bool) → not b ≡ false → b ≡ true
-not_false true h = refl
-not_false false h = absurd cc
-
-both_false : (b c : Bool) → (b || c) ≡ false → (b ≡ false) × (c ≡ false)
-both_false true c h = absurd cc
-both_false false c h = (refl, h)
-
-accepted_ack : (a : Asker) (o : Option Ack) → first_of (broken (acknowledge_rows a o)) ≡ None → IfSome o (λ ack. ack.receive ≤ a.config.buffer)
+accepted_ack : (a : Asker) (o : Option Ack) → first_row (broken (acknowledge_rows a o)) ≡ None → IfSome o (λ ack. ack.receive ≤ a.config.buffer)
 accepted_ack a None h = tt
 accepted_ack a (Some ack) h =
-    let fine : is_acceptable (hello_by a) ack ≡ true = not_false (is_acceptable (hello_by a) ack) (row_false (not (is_acceptable (hello_by a) ack)) (Broken 0x80810000) [] h) in
+    let fine : is_acceptable (hello_by a) ack ≡ true = not-false (is_acceptable (hello_by a) ack) (all_no (broken (acknowledge_rows a (Some ack))) h).0 in
     let sizes = and_parts (is_size a.config.buffer ack.receive) (is_size a.config.buffer ack.send) fine in
     let ends = and_parts (nat_le 8192 ack.receive) (nat_le ack.receive a.config.buffer) sizes.0 in
     leb-true ack.receive a.config.buffer ends.1
@@ -194,11 +176,11 @@ step_within a cmds past f h w =
     let due = due_at cmds past end in
     let wanted = wanted_at cmds past end (carried f).request_id in
     let usable = token_usable k f in
-    let rows = or_none (option_map Broken (header_fault (greatest_answer k.ack) f.bytes)) (first_of (client_rows a k due wanted usable f (flag_of f.bytes) (kind_of f.bytes))) h in
+    let rows = or_none (option_map Broken (header_fault (greatest_answer k.ack) f.bytes)) (first_row (client_rows a k due wanted usable f (flag_of f.bytes) (kind_of f.bytes))) h in
     let new : is_acknowledge_frame f ≡ true → IfSome (acknowledge_in f) (λ ack. ack.receive ≤ a.config.buffer) = λ t.
     (let kind : kind_of f.bytes ≡ Some kinds.Acknowledge = is_acknowledge_tells (kind_of f.bytes) (and_parts (is_acknowledge (kind_of f.bytes)) (is_some (acknowledge_in f)) t).0 in
-    let there : first_of (client_rows a k due wanted usable f (flag_of f.bytes) (Some kinds.Acknowledge)) ≡ None = ap (λ o. first_of (client_rows a k due wanted usable f (flag_of f.bytes) o)) (sym kind) ∙ rows in
-    accepted_ack a (acknowledge_in f) (behind_first (not (is_awaited k due (Some kinds.Acknowledge))) (Broken 0x807E0000) (broken (acknowledge_rows a (acknowledge_in f))) there)) in
+    let there : first_row (client_rows a k due wanted usable f (flag_of f.bytes) (Some kinds.Acknowledge)) ≡ None = ap (λ o. first_row (client_rows a k due wanted usable f (flag_of f.bytes) o)) (sym kind) ∙ rows in
+    accepted_ack a (acknowledge_in f) (first_passes (not (is_awaited k due (Some kinds.Acknowledge))) (Broken 0x807E0000) (first_row (broken (acknowledge_rows a (acknowledge_in f)))) there).1) in
     subst (λ o. IfSome o (λ ack. ack.receive ≤ a.config.buffer)) (sym (known_ack past f)) (or_within a k.ack (acknowledge_in f) (is_acknowledge_frame f) w new)
 
 reading_within : (a : Asker) (cmds : Commands) (past : Past) (fs : List Frame) (rest : List ℕ) → Within a (client_known past) → Within a (client_known (client_reading a cmds past fs rest).past)
@@ -226,11 +208,8 @@ told_cut : (a : Asker) (cmds : Commands) (v : List TimedByte) (act : Act) → a.
 told_cut a cmds v (Ask request part) most h =
     let r = client_reading_of a cmds v in
     let s = standing cmds r.past in
-    let rows = asking_rows s request part in
-    let asked = behind_first (not s.channel_open) NotOpen rows (behind_first (is_some r.fault) Ended ((not s.channel_open, NotOpen) ∷ rows) h) in
-    let others : List (Bool × AskFault) = (nat_le 64 s.pending, TooManyPending) ∷ (nat_lt 4294967295 s.next_id, IdsSpent) ∷ (is_too_large s.ack part request, TooLarge) ∷ [] in
-    let limit = row_false (part == 0 || nat_lt (greatest_part s.ack) part) BadPartLimit others asked in
-    let short : part ≤ greatest_part s.ack = ltb-false (greatest_part s.ack) part (both_false (part == 0) (nat_lt (greatest_part s.ack) part) limit).1 in
+    let no = all_no ((is_some r.fault, Ended) ∷ (not s.channel_open, NotOpen) ∷ asking_rows s request part) h in
+    let short : part ≤ greatest_part s.ack = ltb-false (greatest_part s.ack) part (or_parts (part == 0) (nat_lt (greatest_part s.ack) part) no.1.1.0).1 in
     part_fits a (client_known r.past) part most (reading_within a cmds [] (frames_of v) (plain (rest_of v)) (nothing_within a)) short
 told_cut a cmds v Renew most h = tt
 told_cut a cmds v Close most h = tt

@@ -1,7 +1,7 @@
 -- What a command that is accepted meets: no fault, an open channel with a token, an id that is left, and a request that fits the Acknowledge.
 use Rattle.std.proofs.Common.{◌≡◌, ℕ, zero, suc, ◌+◌, ◌-◌, ◌≤◌, Bool, true, false, List, [], ◌∷◌, take, length, Option, Some, None, refl, sym, ap, ◌∙◌, arith}
 use Rattle.std.specs.Prelude.{◌==◌, ◌&&◌, not, nat_lt, is_some}
-use Rattle.std.proofs.lemmas.Bool.{and_parts, or_parts, ltb-false, eqb-true, eqb-false}
+use Rattle.std.proofs.lemmas.Bool.{and_parts, or_parts, ltb-false, eqb-true, eqb-false, not-false}
 use Rattle.ua_frame.specs.Streams.{TimedByte}
 use Rattle.ua_frame.specs.declared.acknowledge.Ack.{Ack}
 use Rattle.ua_chunk.specs.Cut.{part_count}
@@ -17,12 +17,8 @@ use Rattle.ua_conn.specs.client.Reading.{client_reading_of, client_fault}
 use Rattle.ua_conn.specs.client.Asking.{has_token_of, standing, act_rows, greatest_part, is_too_large, ask_fault}
 use Rattle.ua_conn.specs.declared.client.fault.ClientFault.{ClientFault}
 use Rattle.ua_conn.specs.declared.client.ask_fault.AskFault.TheVariants.{Ended, NotOpen}
-use Rattle.ua_conn.proofs.ClientEnd.FreshLemmas.{AllNo, all_no}
+use Rattle.ua_conn.proofs.TableLemmas.{AllNo, all_no}
 use Rattle.ua_conn.proofs.ClientEnd.CountLemmas.{ids_left}
-
-not_false : (b : Bool) → not b ≡ false → b ≡ true
-not_false true h = refl
-not_false false h = absurd (cc h)
 
 no_some : (o : Option ClientFault) → is_some o ≡ false → o ≡ None
 no_some None h = refl
@@ -43,7 +39,7 @@ is_there : (a : Asker) (cmds : Commands) (v : List TimedByte) (act : Act) → as
     (has_token_of (client_known (client_reading_of a cmds v).past) ≡ true) × (not (is_closed cmds) ≡ true)
 is_there a cmds v act h =
     let past = (client_reading_of a cmds v).past in
-    and_parts (has_token_of (client_known past)) (not (is_closed cmds)) (not_false (standing cmds past).channel_open (accepted_rows a cmds v act h).1.0)
+    and_parts (has_token_of (client_known past)) (not (is_closed cmds)) (not-false (standing cmds past).channel_open (accepted_rows a cmds v act h).1.0)
 
 -- was not told to close,
 pub accepted_open : (a : Asker) (cmds : Commands) (v : List TimedByte) (act : Act) → ask_fault a cmds v act ≡ None → is_closed cmds ≡ false

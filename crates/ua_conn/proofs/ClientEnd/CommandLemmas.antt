@@ -4,6 +4,7 @@ use Rattle.std.specs.Prelude.{◌==◌, ◌||◌, ◌&&◌, nat_lt, option_map}
 use Rattle.std.specs.List.{filter, find}
 use Rattle.std.proofs.lemmas.List.Elements.{filter-append}
 use Rattle.std.proofs.lemmas.Bool.{eq-eqb, ne_eqb, lt-ltb}
+use Rattle.ua_frame.specs.Rows.{first_row, or_else}
 use Rattle.ua_frame.specs.Layout.{Frame, kind_of, flag_of}
 use Rattle.ua_frame.specs.HeaderRows.{header_fault}
 use Rattle.ua_frame.specs.declared.kind.Kind.{Kind}
@@ -17,7 +18,7 @@ use Rattle.ua_conn.specs.client.Asker.{Asker}
 use Rattle.ua_conn.specs.client.Commands.{Act, Ask, Renew, Close, Command, Commands, Asked, OpenAsked, asked_in, asked_by, opens_asked, opens_by, next_id, request_under}
 use Rattle.ua_conn.specs.client.Past.{ClientKnown, client_known}
 use Rattle.ua_conn.specs.client.Pending.{bytes_in, is_among, ends_one, ended_ids, opening_id, opened_ids, pending_in, wanted_at, opening_in, due_at, first_id}
-use Rattle.ua_conn.specs.client.Faults.{first_of, or_fault, greatest_answer, client_rows, client_fault_by, is_id, whole_response}
+use Rattle.ua_conn.specs.client.Faults.{greatest_answer, client_rows, client_fault_by, is_id, whole_response}
 use Rattle.ua_conn.specs.client.Reading.{answer_at, answer_with, answers, result_by}
 use Rattle.ua_conn.specs.BothEnds.{AllAfter}
 use Rattle.ua_conn.specs.declared.client.answer.AnswerResult.TheVariants.{Response as Responds, Aborted}
@@ -85,7 +86,7 @@ fault_stays a k due due' wanted wanted' usable f more_due more_wanted h = by (ki
     head = option_map Broken (header_fault (greatest_answer k.ack) f.bytes)
 
     table : Option ℕ → Option Request → Option Kind → Option ClientFault
-    table d w kind = or_fault head (first_of (client_rows a k d w usable f (flag_of f.bytes) kind))
+    table d w kind = or_else head (first_row (client_rows a k d w usable f (flag_of f.bytes) kind))
 
     here : (kind : Option Kind) → kind_of f.bytes ≡ kind → table due wanted kind ≡ None
     here kind e = ap (table due wanted) (sym e) ∙ h

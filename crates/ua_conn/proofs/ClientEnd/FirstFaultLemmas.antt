@@ -1,12 +1,12 @@
 -- A client's reading stops at the least place; and once it stopped, what comes later changes nothing.
 use Rattle.std.proofs.Common.{◌≡◌, ℕ, List, [], ◌∷◌, ◌++◌, Option, Some, None, is_some, refl, ap, ◌∙◌}
 use Rattle.std.specs.Prelude.{not}
+use Rattle.ua_frame.specs.Rows.{first_row}
 use Rattle.ua_frame.specs.Streams.{TimedByte}
 use Rattle.ua_frame.specs.Layout.{Frame}
 use Rattle.ua_conn.specs.Past.{Past}
 use Rattle.ua_conn.specs.client.Asker.{Asker}
 use Rattle.ua_conn.specs.client.Commands.{Act, Commands}
-use Rattle.ua_conn.specs.client.Faults.{first_of}
 use Rattle.ua_conn.specs.client.FirstFault.{at_fault, at_rest, ClientFirst, ClientStopsFirst, ClientStaysStopped}
 use Rattle.ua_conn.specs.client.Reading.{ClientReading, client_fault_at, client_reading, client_reading_of, answers}
 use Rattle.ua_conn.specs.client.Sending.{sent_all, sent_by}
@@ -31,7 +31,7 @@ stops_first a cmds fs rest = first a cmds [] fs rest
 ended : (a : Asker) (cmds : Commands) (v : List TimedByte) (fault : ClientFault) (act : Act) → (client_reading_of a cmds v).fault ≡ Some fault → ask_fault a cmds v act ≡ Some Ended
 ended a cmds v fault act e =
     let past = (client_reading_of a cmds v).past in
-    ap (λ (o : Option ClientFault). first_of ((is_some o, Ended) ∷ (not (standing cmds past).channel_open, NotOpen) ∷ act_rows (standing cmds past) act)) e
+    ap (λ (o : Option ClientFault). first_row ((is_some o, Ended) ∷ (not (standing cmds past).channel_open, NotOpen) ∷ act_rows (standing cmds past) act)) e
 
 pub stays_stopped : ClientStaysStopped
 stays_stopped a cmds s t fault e =

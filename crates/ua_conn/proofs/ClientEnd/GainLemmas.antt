@@ -27,10 +27,11 @@ use Rattle.ua_conn.specs.client.Feeding.{sent_of}
 use Rattle.ua_conn.specs.client.Machine.{awaiting_of, client_run, client_run_on, number_sent, sent_next, next_sent, more_waiting, due_with, client_gain}
 use Rattle.ua_conn.specs.declared.client.fault.ClientFault.{ClientFault}
 use Rattle.ua_conn.specs.declared.client.ask_fault.AskFault.TheVariants.{Ended, NotOpen}
+use Rattle.ua_conn.proofs.TableLemmas.{all_no}
 use Rattle.ua_conn.proofs.ClientEnd.PlaceLemmas.{AllBehind, bytes_of_frames, frames_within, later_frames}
 use Rattle.ua_conn.proofs.ClientEnd.ReadingLemmas.{stands, reads_more, reads_same, same_wanted}
 use Rattle.ua_conn.proofs.BothEnds.FaithfulLemmas.{AllSeen, IsStarted, untold, acknowledged, seen_later, seen_one, started_later, sent_append, accepted_acked}
-use Rattle.ua_conn.proofs.ClientEnd.FreshLemmas.{all_no, fresh}
+use Rattle.ua_conn.proofs.ClientEnd.FreshLemmas.{fresh}
 use Rattle.ua_conn.proofs.ClientEnd.RecordLemmas.{awaiting}
 use Rattle.ua_conn.proofs.ClientEnd.RunLemmas.{AtMostOne, one_more, IsClientRun, client_run_is}
 

@@ -3,7 +3,7 @@ use Rattle.std.proofs.Common.{◌≡◌, ℕ, ◌<◌, ◌≤◌, Bool, true, fa
 use Rattle.std.specs.Prelude.{◌==◌, ◌||◌}
 use Rattle.std.specs.List.{filter}
 use Rattle.std.proofs.lemmas.List.{append-nil, map-append}
-use Rattle.std.proofs.lemmas.Bool.{or_parts, eq-eqb, eqb-true, cases_lt}
+use Rattle.std.proofs.lemmas.Bool.{or_parts, eq-eqb, cases_lt, ne_eqb}
 use Rattle.ua_frame.specs.Layout.{Frame, kind_of}
 use Rattle.ua_conn.specs.Past.{Past, is_open, carried, open_in}
 use Rattle.ua_conn.specs.client.Asker.{Asker}
@@ -40,14 +40,7 @@ AllUnder n [] = Unit {0}
 AllUnder n (m ∷ ms) = (m < n) × AllUnder n ms
 
 not_last : (ns : List ℕ) (n m : ℕ) → n < m → is_among ns n ≡ false → is_among (ns ++ m ∷ []) n ≡ false
-not_last [] n m lt h = ap (λ b. b || false) (apart m n lt)
-  where
-    apart : (m n : ℕ) → n < m → (m == n) ≡ false
-    apart m n lt = by (m == n) refl
-      where
-        by : (b : Bool) → (m == n) ≡ b → b ≡ false
-        by false e = refl
-        by true e = absurd (omega (arith, lt, eqb-true m n e))
+not_last [] n m lt h = ap (λ b. b || false) (ne_eqb m n (λ e. omega (arith, lt, e)))
 not_last (k ∷ ns) n m lt h =
     let parts = or_parts (k == n) (is_among ns n) h in
     ap (λ b. b || is_among (ns ++ m ∷ []) n) parts.0 ∙ not_last ns n m lt parts.1

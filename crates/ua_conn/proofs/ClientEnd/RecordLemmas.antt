@@ -5,6 +5,7 @@ use Rattle.std.specs.List.{filter, find}
 use Rattle.std.proofs.lemmas.List.{length-map}
 use Rattle.std.proofs.lemmas.List.Elements.{filter-append}
 use Rattle.std.proofs.lemmas.Bool.{lt-ltb}
+use Rattle.ua_frame.specs.Rows.{first_row}
 use Rattle.ua_frame.specs.Layout.{Frame}
 use Rattle.ua_service.specs.declared.request.Request.{Request}
 use Rattle.ua_conn.specs.Past.{Past, carried}
@@ -12,7 +13,7 @@ use Rattle.ua_conn.specs.client.Asker.{Asker}
 use Rattle.ua_conn.specs.client.Commands.{Act, Ask, Renew, Close, Commands, Asked, OpenAsked, asked_in, asked_by, opens_asked, opens_by, next_id, request_under, is_closed}
 use Rattle.ua_conn.specs.client.Past.{client_known}
 use Rattle.ua_conn.specs.client.Pending.{bytes_in, is_among, ends_one, ended_ids, opened_ids, pending_in, wanted_at, due_in, due_at, first_id}
-use Rattle.ua_conn.specs.client.Faults.{first_of, client_fault_by, token_usable}
+use Rattle.ua_conn.specs.client.Faults.{client_fault_by, token_usable}
 use Rattle.ua_conn.specs.client.Reading.{client_fault_at, client_reading_of}
 use Rattle.ua_conn.specs.client.Asking.{standing, standing_by, act_rows, refusal}
 use Rattle.ua_conn.specs.client.Held.{commands_of, stream_of, waiting_in, client_held, RefusedByRecord}
@@ -29,7 +30,7 @@ refused_by_record a log act s =
     let cmds = commands_of log in
     let r = client_reading_of a cmds (stream_of log) in
     let same : length (waiting_in cmds r.past) ≡ length (pending_in cmds r.past) = length-map (pending_in cmds r.past) (λ w. (w.id, w.request)) in
-    ap (λ (o : Option ClientFault). first_of ((is_some o, Ended) ∷ (not (standing cmds r.past).channel_open, NotOpen) ∷ act_rows (standing cmds r.past) act)) s.1
+    ap (λ (o : Option ClientFault). first_row ((is_some o, Ended) ∷ (not (standing cmds r.past).channel_open, NotOpen) ∷ act_rows (standing cmds r.past) act)) s.1
     ∙ ap (λ (n : ℕ). refusal (standing_by (client_known r.past) (is_closed cmds) n (due_in cmds r.past) (next_id cmds)) act) (sym same)
 
 -- ---- frames

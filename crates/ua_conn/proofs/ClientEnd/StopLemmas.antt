@@ -2,6 +2,7 @@
 use Rattle.std.proofs.Common.{◌≡◌, ℕ, ◌<◌, ◌≤◌, Bool, List, [], ◌∷◌, ◌++◌, take, length, Option, Some, None, refl, sym, ap, ◌∙◌, arith, ◌⊎◌, inl, inr}
 use Rattle.std.specs.Prelude.{option_map}
 use Rattle.std.proofs.lemmas.Bool.{cases_lt}
+use Rattle.ua_frame.specs.Rows.{first_row, or_else}
 use Rattle.ua_frame.specs.Streams.{TimedByte, plain, size_of, IsFrame, rest_of}
 use Rattle.ua_frame.specs.StreamLaws.{frame_size, front_is_frame, plain_take, plain_append}
 use Rattle.ua_frame.specs.Layout.{Frame, last_moment, frame_by, frames_of, kind_of, flag_of}
@@ -14,7 +15,7 @@ use Rattle.ua_conn.specs.client.Asker.{Asker}
 use Rattle.ua_conn.specs.client.Commands.{Commands}
 use Rattle.ua_conn.specs.client.Past.{ClientKnown, client_known}
 use Rattle.ua_conn.specs.client.Pending.{bytes_in, wanted_at, due_at}
-use Rattle.ua_conn.specs.client.Faults.{first_of, or_fault, greatest_answer, client_rows, client_fault_by, client_fault_in_rest, token_usable}
+use Rattle.ua_conn.specs.client.Faults.{greatest_answer, client_rows, client_fault_by, client_fault_in_rest, token_usable}
 use Rattle.ua_conn.specs.client.Reading.{ClientReading, client_fault_at, client_reading, client_reading_of, client_fault}
 use Rattle.ua_conn.specs.declared.client.fault.ClientFault.{ClientFault}
 use Rattle.ua_conn.specs.declared.client.fault.ClientFault.TheVariants.{Broken}
@@ -53,7 +54,7 @@ bad_whole : (a : Asker) (k : ClientKnown) (due : Option ℕ) (wanted : Option Re
 unfolding client_fault_by client_fault_in_rest
 bad_whole a k due wanted usable b z now e low h =
     let f : Frame = record { bytes = take z b; moment = now } in
-    ap (λ o. or_fault o (first_of (client_rows a k due wanted usable f (flag_of f.bytes) (kind_of f.bytes)))) (ap (option_map Broken) (header_fault_take (greatest_answer k.ack) z b low) ∙ h)
+    ap (λ o. or_else o (first_row (client_rows a k due wanted usable f (flag_of f.bytes) (kind_of f.bytes)))) (ap (option_map Broken) (header_fault_take (greatest_answer k.ack) z b low) ∙ h)
 
 refuses_cases : (o : Option ClientFault) (past : Past) (R : ClientReading) (e : ClientFault) → o ≡ Some e →
     (let r : ClientReading = elim o [ Some fault ↦ record { past = past; fault = Some fault } | None ↦ R ] in r ≡ record { past = past; fault = Some e })

@@ -2,6 +2,7 @@
 use Rattle.std.proofs.Common.{◌≡◌, ℕ, ◌+◌, ◌≤◌, max, Bool, true, false, List, [], ◌∷◌, ◌++◌, map, length, Option, Some, None, refl, sym, ap, subst, ◌∙◌, true≢false, arith}
 use Rattle.std.specs.Prelude.{not, if◌then◌else◌}
 use Rattle.std.proofs.lemmas.List.{append-nil}
+use Rattle.ua_frame.specs.Rows.{first_row}
 use Rattle.ua_chunk.specs.Numbers.{number_after}
 use Rattle.ua_chunk.specs.NumberLaws.{IsNumber, number_is, number_after_none, number_after_more}
 use Rattle.ua_chunk.specs.Cut.{Part, part_count, fill}
@@ -16,7 +17,6 @@ use Rattle.ua_conn.specs.Past.{Past}
 use Rattle.ua_conn.specs.client.Questions.{open_asked_body, close_asked_body}
 use Rattle.ua_conn.specs.client.Reading.{client_reading_of}
 use Rattle.ua_conn.specs.client.Sending.{Opening, Asking, Closing, sent_bytes}
-use Rattle.ua_conn.specs.client.Faults.{first_of}
 use Rattle.ua_conn.specs.client.Asking.{act_rows, refusal}
 use Rattle.ua_conn.specs.client.Held.{Told, Log, IsLog, commands_of, stream_of, refused_in, ClientHeld, client_held, waiting_in, standing_of, ClientGains}
 use Rattle.ua_conn.specs.client.Machine.{Awaiting, waiting_under, sent_next, next_sent, client_gain}
@@ -103,11 +103,11 @@ abbrev NoEnds : List (Bool × AskFault) → Type 0
 NoEnds [] = Unit {0}
 NoEnds (row ∷ rows) = (is_end row.1 ≡ false) × NoEnds rows
 
-no_end : (rows : List (Bool × AskFault)) → NoEnds rows → first_of rows ≡ Some reasons.Ended → ⊥
+no_end : (rows : List (Bool × AskFault)) → NoEnds rows → first_row rows ≡ Some reasons.Ended → ⊥
 no_end [] all h = absurd (cc h)
 no_end ((b, x) ∷ rows) all h = by b (no_end rows all.1) h
   where
-    by : (b : Bool) → (first_of rows ≡ Some reasons.Ended → ⊥) → first_of ((b, x) ∷ rows) ≡ Some reasons.Ended → ⊥
+    by : (b : Bool) → (first_row rows ≡ Some reasons.Ended → ⊥) → first_row ((b, x) ∷ rows) ≡ Some reasons.Ended → ⊥
     by true later e = true≢false (sym (ap is_end_or_none e) ∙ all.0)
     by false later e = later e
 

@@ -25,7 +25,7 @@ use Rattle.ua_conn.specs.server.Ranges.{known_of, running_of}
 use Rattle.ua_conn.specs.server.Opening.{asked_rows, Grants}
 use Rattle.ua_conn.specs.server.Effects.{Acts, hello_effect, open_effect, open_by}
 use Rattle.ua_conn.specs.declared.server.connection.opening.Granted.{Granted}
-use Rattle.ua_conn.proofs.ServerEnd.TableLemmas.{join_none}
+use Rattle.ua_conn.proofs.TableLemmas.{join_none}
 use Rattle.ua_conn.proofs.ServerEnd.ReplyLemmas.{one_acknowledge, one_opened}
 
 abbrev gains : List ℕ → List Request → Gained

@@ -2,7 +2,7 @@
 use Rattle.std.proofs.Common.{◌≡◌, ℕ, ◌+◌, ◌≤◌, true, false, cond, ◌||◌, ◌==◌, List, [], ◌∷◌, ◌++◌, length, Option, Some, None, is_some, is_none, refl, sym, ap, subst, ◌∙◌, arith, append_assoc}
 use Rattle.std.proofs.lemmas.List.{append-nil, length-append}
 use Rattle.std.proofs.lemmas.List.Concat.{flat_map-append}
-use Rattle.std.proofs.lemmas.Bool.{eqb-true}
+use Rattle.std.proofs.lemmas.Bool.{eqb-true, not-false}
 use Rattle.ua_frame.specs.Layout.{Frame, kind_of, flag_of}
 use Rattle.ua_frame.specs.declared.kind.Kind.{Kind}
 use Rattle.ua_frame.specs.declared.kind.Kind.TheVariants as kinds
@@ -15,7 +15,7 @@ use Rattle.ua_conn.specs.Past.{Past, Known, known, agreed, is_hello, is_open, is
 use Rattle.ua_conn.specs.server.Faults.{is_allowed, greatest_frame}
 use Rattle.ua_conn.specs.server.Held.{newest_first}
 use Rattle.ua_conn.specs.server.Legal.{joined_body, IsChunk, IsOpening, IsHello, AreParts, FitTheLimits, Turn, Renewal, Message, Dropped, turn_frames, IsTurn, AreTurns, IsMessage, IsDropped, all_frames, Tail, NoTail, Close, tail_frames, IsClose, IsTail, IsLegal, IsBeginning, HasRoom, Opens, BeginsLegal}
-use Rattle.ua_conn.proofs.ServerEnd.RowLemmas.{Fine, AreFine, fine_all, faultless_all, tells, fine_by, yes, Admits, Part, part_rows, close_rows_no, OpenAt, open_tells, open_rows_no, HelloAt, hello_tells, hello_rows_no}
+use Rattle.ua_conn.proofs.ServerEnd.RowLemmas.{Fine, AreFine, fine_all, faultless_all, tells, fine_by, Admits, Part, part_rows, close_rows_no, OpenAt, open_tells, open_rows_no, HelloAt, hello_tells, hello_rows_no}
 use Rattle.ua_conn.proofs.ServerEnd.ReadyLemmas.{half_of, Ready, newest_last, half_bodies, half_counts, half_ids, allowed_ready, part_ready, last_ready, opn_ready}
 use Rattle.ua_conn.proofs.ServerEnd.GrammarLemmas.{build, start_at}
 use Rattle.ua_service.specs.Requests.{request_of}
@@ -61,10 +61,10 @@ at_second site h hello e q = record {
 hello_from : (site : Site) (h : Frame) → Fine site (known site []) h → IsHello site h
 hello_from site h n =
     let all = tells site (known site []) h (kind_of h.bytes) (flag_of h.bytes) refl refl n in
-    let e : kind_of h.bytes ≡ Some kinds.Hello = hel_kind (kind_of h.bytes) (ap (λ b. cond b (is_hello (kind_of h.bytes)) (cond (length (known site []).tokens == 0) (is_open (kind_of h.bytes)) (has_number (kind_of h.bytes)))) (sym (at_first site)) ∙ yes _ all.1.1.1.1.0) in
+    let e : kind_of h.bytes ≡ Some kinds.Hello = hel_kind (kind_of h.bytes) (ap (λ b. cond b (is_hello (kind_of h.bytes)) (cond (length (known site []).tokens == 0) (is_open (kind_of h.bytes)) (has_number (kind_of h.bytes)))) (sym (at_first site)) ∙ not-false _ all.1.1.1.1.0) in
     let all' = tells site (known site []) h (Some kinds.Hello) (flag_of h.bytes) e refl n in
     let p = hello_tells site (known site []) h (flag_of h.bytes) n.whole all' in
-    record { kind = e; flag = eqb-true _ _ (yes _ all'.1.0); size = p.size; hello = p.hello; layout = p.layout; url = p.url; receive = p.receive; send = p.send }
+    record { kind = e; flag = eqb-true _ _ (not-false _ all'.1.0); size = p.size; hello = p.hello; layout = p.layout; url = p.url; receive = p.receive; send = p.send }
 
 opening_from : (site : Site) (h o : Frame) → IsHello site h → Fine site (known site (h ∷ [])) o → IsOpening site (h ∷ []) 0 0 o
 opening_from site h o i n =
@@ -72,12 +72,12 @@ opening_from site h o i n =
     let g = at_second site h i.hello i.kind i.layout in
     let all = tells site k o (kind_of o.bytes) (flag_of o.bytes) refl refl n in
     let allowed : is_allowed k (kind_of o.bytes) ≡ is_open (kind_of o.bytes) = λ j. cond (g.limits j) (is_hello (kind_of o.bytes)) (cond (g.tokens j) (is_open (kind_of o.bytes)) (has_number (kind_of o.bytes))) in
-    let e : kind_of o.bytes ≡ Some kinds.Open = opn_kind (kind_of o.bytes) (sym allowed ∙ yes _ all.1.1.1.1.0) in
+    let e : kind_of o.bytes ≡ Some kinds.Open = opn_kind (kind_of o.bytes) (sym allowed ∙ not-false _ all.1.1.1.1.0) in
     let all' = tells site k o (Some kinds.Open) (flag_of o.bytes) e refl n in
     let p = open_tells site k o (flag_of o.bytes) n.whole all' in
     record {
       kind = e;
-      flag = eqb-true _ _ (yes _ all'.1.0);
+      flag = eqb-true _ _ (not-false _ all'.1.0);
       size = p.size;
       opening = p.opening;
       layout = p.layout;

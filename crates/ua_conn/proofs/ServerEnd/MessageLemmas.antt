@@ -24,7 +24,7 @@ use Rattle.ua_conn.specs.server.Taking.{Gained}
 use Rattle.ua_conn.specs.server.Ranges.{known_of, running_of, IsBetween}
 use Rattle.ua_conn.specs.server.Parts.{gathered_rows, Gathers, whole_with}
 use Rattle.ua_conn.specs.server.Effects.{Acts, message_effect, close_effect, admitted_rows, heard_in, answers}
-use Rattle.ua_conn.proofs.ServerEnd.TableLemmas.{join_none}
+use Rattle.ua_conn.proofs.TableLemmas.{join_none}
 use Rattle.ua_conn.proofs.ServerEnd.ReplyLemmas.{answer_frames, answer_next}
 use Rattle.ua_conn.proofs.ServerEnd.EffectLemmas.{channel_is}
 

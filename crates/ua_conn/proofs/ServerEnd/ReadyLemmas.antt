@@ -3,6 +3,7 @@ use Rattle.std.proofs.Common.{◌≡◌, ℕ, suc, ◌+◌, ◌≤◌, true, fal
 use Rattle.std.proofs.lemmas.List.{append-nil, length-append}
 use Rattle.std.proofs.lemmas.List.Concat.{flat_map-append}
 use Rattle.std.proofs.lemmas.Bool.Decides.{eqb_tells}
+use Rattle.std.proofs.lemmas.Bool.{eq-eqb}
 use Rattle.ua_frame.specs.Layout.{Frame, kind_of, flag_of}
 use Rattle.ua_frame.specs.declared.kind.Kind.{Kind}
 use Rattle.ua_frame.specs.declared.kind.Kind.TheVariants as kinds
@@ -14,7 +15,6 @@ use Rattle.ua_conn.specs.server.Held.{newest_first}
 use Rattle.ua_conn.specs.server.Legal.{joined_body}
 use Rattle.ua_conn.specs.server.Machine.{known_after, token_after, half_then}
 use Rattle.ua_conn.proofs.ServerEnd.KnownLemmas.{known_step}
-use Rattle.ua_conn.proofs.ServerEnd.RowLemmas.{is_equal}
 
 -- the half received message of these parts
 abbrev pub half_of : ℕ → List Frame → Option Half
@@ -51,7 +51,7 @@ half_counts id (p ∷ ps) = refl
 
 pub half_ids : (id : ℕ) (parts : List Frame) → may_have_id (half_of id parts) id ≡ true
 half_ids id [] = refl
-half_ids id (p ∷ ps) = is_equal id id refl
+half_ids id (p ∷ ps) = eq-eqb id id refl
 
 pub allowed_ready : (k : Known) (h : Option Half) (kind : Option Kind) → Ready k h → is_allowed k kind ≡ has_number kind
 allowed_ready k h kind r = λ i. cond (r.limits i) (is_hello kind) (cond (r.tokens i) (is_open kind) (has_number kind))

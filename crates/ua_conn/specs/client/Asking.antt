@@ -1,5 +1,6 @@
 -- When a client takes a command, and why it refuses one.
 use Rattle.std.specs.Prelude.{ℕ, ◌-◌, Bool, false, not, ◌&&◌, ◌||◌, ◌==◌, nat_lt, nat_le, List, [], ◌∷◌, length, Option, Some, None, is_some}
+use Rattle.ua_frame.specs.Rows.{first_row}
 use Rattle.ua_frame.specs.Streams.{TimedByte}
 use Rattle.ua_frame.specs.declared.acknowledge.Ack.{Ack}
 use Rattle.ua_chunk.specs.Cut.{part_count}
@@ -11,7 +12,6 @@ use Rattle.ua_conn.specs.client.Past.{ClientKnown, client_known}
 use Rattle.ua_conn.specs.client.Asker.{Asker}
 use Rattle.ua_conn.specs.client.Commands.{Act, Ask, Renew, Close, Commands, next_id, is_closed}
 use Rattle.ua_conn.specs.client.Pending.{pending_in, due_in}
-use Rattle.ua_conn.specs.client.Faults.{first_of}
 use Rattle.ua_conn.specs.client.Reading.{client_reading_of}
 use Rattle.ua_conn.specs.declared.client.ask_fault.AskFault.{AskFault}
 use Rattle.ua_conn.specs.declared.client.ask_fault.AskFault.TheVariants.{NotOpen, TooLarge, TooManyPending, IdsSpent, RenewPending, StillPending, Ended, BadPartLimit}
@@ -90,10 +90,10 @@ act_rows s Close = closing_rows s
 
 -- of a client that has not failed: not open, and the rows of the command
 abbrev pub refusal : Standing → Act → Option AskFault
-refusal s act = first_of ((not s.channel_open, NotOpen) ∷ act_rows s act)
+refusal s act = first_row ((not s.channel_open, NotOpen) ∷ act_rows s act)
 
 -- Why the command is refused, first reason first, where these commands were accepted and these bytes came.
 abbrev pub ask_fault : Asker → Commands → List TimedByte → Act → Option AskFault
 ask_fault a cmds v act =
     let r = client_reading_of a cmds v in
-    first_of ((is_some r.fault, Ended) ∷ (not (standing cmds r.past).channel_open, NotOpen) ∷ act_rows (standing cmds r.past) act)
+    first_row ((is_some r.fault, Ended) ∷ (not (standing cmds r.past).channel_open, NotOpen) ∷ act_rows (standing cmds r.past) act)
