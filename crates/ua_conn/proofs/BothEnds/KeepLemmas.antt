@@ -12,7 +12,8 @@ use Rattle.ua_chunk.specs.FrameLaws.{number_fits}
 use Rattle.ua_channel.specs.Token.{newest_id, next_token, two_newest}
 use Rattle.ua_channel.specs.Admission.{awaited_channel, awaited_type}
 use Rattle.ua_channel.specs.Channel.{most}
-use Rattle.ua_service.specs.ValueLaws.{open_request_at, open_request_read, open_request_length, close_request_at, close_request_read, close_request_length}
+use Rattle.ua_service.specs.Channel.{open_request_at, close_request_at}
+use Rattle.ua_service.specs.ValueLaws.{open_request_read, open_request_length, close_request_read, close_request_length}
 use Rattle.ua_conn.specs.server.Site.{Site}
 use Rattle.ua_conn.specs.Past.{Past, agreed, is_open, tokens_in}
 use Rattle.ua_conn.specs.server.Answers.{opened_body}

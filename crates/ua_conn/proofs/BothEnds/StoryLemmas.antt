@@ -33,12 +33,11 @@ use Rattle.ua_chunk.specs.Numbers.{number_after}
 use Rattle.ua_chunk.specs.FrameLaws.{IsPartOf, fill_parts}
 use Rattle.ua_channel.specs.Token.{newest_id}
 use Rattle.ua_service.specs.Requests.{canon_request}
-use Rattle.ua_service.specs.ValueLaws.{open_request_length, close_request_length}
 use Rattle.ua_conn.specs.client.Asker.{Asker, hello_by}
 use Rattle.ua_conn.specs.client.Commands.{Act, Ask, Renew, Close, Command, Commands, next_id}
-use Rattle.ua_conn.specs.client.Questions.{open_asked_body, close_asked_body}
 use Rattle.ua_conn.specs.client.Sending.{Sent, Greeting, Opening, Asking, Closing, sent_bytes, more_sent, sent_all, opens_by, act_says, commands_say, sent_by, client_sent}
 use Rattle.ua_conn.specs.declared.schedule.Step.{Step}
+use Rattle.ua_conn.proofs.ClientEnd.QuestionLemmas.{open_length, close_length}
 use Rattle.ua_conn.proofs.BothEnds.SpokenLemmas.{Spoken, Greets, Opens, Tells, Closes, spell, AreSized, spelled_list, BeginsSpoken, begins_spoken}
 
 -- ---- what a client sends, as values
@@ -94,14 +93,6 @@ IsCut Close = Unit {0}
 
 abbrev pub AreCut : Commands → Type 0
 AreCut cmds = AllByRecursion (λ (c : Command). IsCut c.act) cmds
-
-open_length : (now id type lifetime : ℕ) → length (open_asked_body now id type lifetime) ≡ 53
-unfolding open_asked_body
-open_length now id type lifetime = open_request_length now id type lifetime
-
-close_length : (now id : ℕ) → length (close_asked_body now id) ≡ 33
-unfolding close_asked_body
-close_length now id = close_request_length now id
 
 parts_sized : (channel token id k : ℕ) (parts : List Part) → 24 + k < 2 ^ 32 → AllByRecursion (IsPartOf id k) parts → HaveSizes (map (Asking channel token) parts)
 parts_sized channel token id k [] lt h = tt

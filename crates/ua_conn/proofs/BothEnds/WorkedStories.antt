@@ -24,7 +24,7 @@ use Rattle.ua_service.specs.declared.request.Request.{Request}
 use Rattle.ua_service.specs.Message.{message}
 use Rattle.ua_service.specs.Requests.{request_of}
 use Rattle.ua_service.specs.Responses.{response_of}
-use Rattle.ua_service.specs.Headers.{request_header, response_header, service_fault}
+use Rattle.ua_service.specs.Headers.{request_header_at, request_header, response_header, service_fault}
 use Rattle.ua_service.specs.Channel.{open_request, open_response, close_request}
 use Rattle.ua_service.specs.Discovery.{find_servers_request, find_servers_response, get_endpoints_request, get_endpoints_response}
 use Rattle.ua_service.specs.Application.{application_description}
@@ -39,7 +39,7 @@ use Rattle.ua_conn.specs.client.Asker.{Asker}
 use Rattle.ua_conn.specs.client.Past.{client_known}
 use Rattle.ua_conn.specs.client.Faults.{client_fault_by, client_fault_in_rest}
 use Rattle.ua_conn.specs.client.Reading.{answer_at}
-use Rattle.ua_conn.specs.client.Questions.{request_header_at, open_asked_body, close_asked_body}
+use Rattle.ua_conn.specs.client.Questions.{open_asked_body, close_asked_body}
 use Rattle.ua_conn.specs.client.Sending.{sent_bytes}
 use Rattle.ua_conn.specs.BothEnds.{expected}
 use Rattle.ua_conn.specs.Story.{Setup, World, Story, final, story_in}
