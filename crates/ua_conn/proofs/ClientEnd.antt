@@ -9,7 +9,6 @@ pub mod GainLemmas
 pub mod StopLemmas
 pub mod CommandLemmas
 pub mod IdLemmas
-pub mod MatchedLemmas
 pub mod CountLemmas
 pub mod AcceptedLemmas
 pub mod FirstFaultLemmas

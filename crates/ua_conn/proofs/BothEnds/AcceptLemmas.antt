@@ -19,6 +19,7 @@ use Rattle.ua_conn.specs.client.Sending.{Opening, Asking, Closing, greets, opens
 use Rattle.ua_conn.specs.client.Asking.{ask_fault}
 use Rattle.ua_conn.specs.Story.{Setup, World}
 use Rattle.ua_conn.specs.BothEnds.{IsSetup}
+use Rattle.ua_conn.proofs.ServerEnd.ReadyLemmas.{newest_append}
 use Rattle.ua_conn.proofs.ClientEnd.AcceptedLemmas.{accepted_token, over_not, ask_fits}
 use Rattle.ua_conn.proofs.ClientEnd.CountLemmas.{tokens_left, ids_left}
 use Rattle.ua_conn.proofs.ClientEnd.PlaceLemmas.{frames_within}
@@ -26,7 +27,7 @@ use Rattle.ua_conn.proofs.ClientEnd.ReadingLemmas.{reads_same}
 use Rattle.ua_conn.proofs.BothEnds.CommandAddsLemmas.{ask_adds, renew_adds, close_adds}
 use Rattle.ua_conn.proofs.BothEnds.CommandStepLemmas.{Adds, core_step, reaches}
 use Rattle.ua_conn.proofs.BothEnds.FaithfulLemmas.{accepted_acked}
-use Rattle.ua_conn.proofs.BothEnds.FrameListLemmas.{newest_append, all_back}
+use Rattle.ua_conn.proofs.BothEnds.FrameListLemmas.{all_back}
 use Rattle.ua_conn.proofs.BothEnds.HoldLemmas.{ids_of, Fits}
 use Rattle.ua_conn.proofs.BothEnds.InvariantForms.{Core}
 use Rattle.ua_conn.proofs.BothEnds.OnTheWayLemmas.{past_of, Accepts}

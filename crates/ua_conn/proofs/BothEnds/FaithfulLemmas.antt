@@ -32,11 +32,11 @@ use Rattle.ua_conn.specs.declared.client.ask_fault.AskFault.{AskFault}
 use Rattle.ua_conn.specs.declared.client.fault.ClientFault.{ClientFault}
 use Rattle.ua_conn.specs.declared.client.fault.ClientFault.TheVariants.{Broken}
 use Rattle.ua_conn.specs.declared.client.ask_fault.AskFault.TheVariants.{Ended, NotOpen}
-use Rattle.ua_conn.proofs.ClientEnd.FreshLemmas.{is_open_tells}
+use Rattle.ua_conn.proofs.KindLemmas.{is_open_tells}
 use Rattle.ua_conn.proofs.TableLemmas.{all_no, or_none}
 use Rattle.ua_conn.proofs.ServerEnd.GrowthLemmas.{reply_grows}
 use Rattle.ua_conn.proofs.ClientEnd.PlaceLemmas.{AllBehind, AllWithin, frames_within, later_frames, come_by_same, behind_less, behind_weaker}
-use Rattle.ua_conn.proofs.ClientEnd.ReadingLemmas.{ReadsOn, reads_more, reads_same}
+use Rattle.ua_conn.proofs.ClientEnd.ReadingLemmas.{ReadsOn, reads_more, reads_same, along_reading}
 
 -- ---- beginnings
 
@@ -183,13 +183,7 @@ acked_step a cmds past f h (inl e) = by (is_open (kind_of f.bytes)) refl
     by false o = inl (rw o e)
 
 acked : (a : Asker) (cmds : Commands) (past : Past) (fs : List Frame) (rest : List ℕ) → IsAcked past → IsAcked (client_reading a cmds past fs rest).past
-acked a cmds past [] rest h = h
-acked a cmds past (f ∷ fs) rest h = by (client_fault_at a cmds past f) refl (acked a cmds (f ∷ past) fs rest)
-  where
-    by : (o : Option ClientFault) → client_fault_at a cmds past f ≡ o → (IsAcked (f ∷ past) → IsAcked (client_reading a cmds (f ∷ past) fs rest).past) →
-        (let R : ClientReading = elim o [ Some fault ↦ record { past = past; fault = Some fault } | None ↦ client_reading a cmds (f ∷ past) fs rest ] in IsAcked R.past)
-    by (Some fault) e k = h
-    by None e k = k (acked_step a cmds past f e h)
+acked a cmds past fs rest h = along_reading IsAcked a cmds (acked_step a cmds) past fs rest h
 
 -- a command that is accepted comes behind the Acknowledge
 pub accepted_acked : (a : Asker) (cmds : Commands) (v : List TimedByte) (act : Act) → ask_fault a cmds v act ≡ None → (f : Frame) × (acknowledge_frame_in (client_reading_of a cmds v).past ≡ Some f)

@@ -4,7 +4,7 @@ use Rattle.std.proofs.Common.{◌≡◌, ℕ, ◌+◌, ◌≤◌, Bool, true, fa
 use Rattle.std.specs.Prelude.{◌==◌, ◌&&◌, not}
 use Rattle.std.specs.List.{filter, find}
 use Rattle.std.proofs.lemmas.List.{length-append, length-map}
-use Rattle.std.proofs.lemmas.Bool.{le-leb, ne_eqb, eqb-true, or_parts, not-false}
+use Rattle.std.proofs.lemmas.Bool.{ne_eqb, eqb-true, or_parts, not-false}
 use Rattle.ua_frame.specs.Streams.{TimedByte}
 use Rattle.ua_frame.specs.Layout.{Frame, frames_of, kind_of, flag_of}
 use Rattle.ua_frame.specs.declared.kind.Kind.TheVariants as kinds
@@ -20,30 +20,24 @@ use Rattle.ua_conn.specs.client.Past.{ClientKnown, client_known, ack_by, acknowl
 use Rattle.ua_conn.specs.client.Pending.{bytes_in, come_by, due_at, wanted_at}
 use Rattle.ua_conn.specs.client.Faults.{client_rows, opened_rows}
 use Rattle.ua_conn.specs.BothEnds.{AllAfter}
+use Rattle.ua_conn.proofs.ClientEnd.GainLemmas.{come_by_all}
+use Rattle.ua_conn.proofs.ServerEnd.ReadyLemmas.{newest_append}
+use Rattle.ua_conn.proofs.KindLemmas.{is_open_tells}
 use Rattle.ua_conn.proofs.TableLemmas.{AllNo, all_no}
-use Rattle.ua_conn.proofs.ClientEnd.FreshLemmas.{is_open_tells, rows_of_kind}
-use Rattle.ua_conn.proofs.ClientEnd.PlaceLemmas.{bytes_of_frames}
+use Rattle.ua_conn.proofs.ClientEnd.FreshLemmas.{rows_of_kind}
+use Rattle.ua_conn.proofs.ClientEnd.PlaceLemmas.{bytes_of_frames, grows}
 use Rattle.ua_conn.proofs.BothEnds.AliveLemmas.{client_tokens}
 use Rattle.ua_conn.proofs.BothEnds.ClientWalkLemmas.{granted_more}
 use Rattle.ua_conn.proofs.BothEnds.FaithfulLemmas.{acknowledge_same}
-use Rattle.ua_conn.proofs.BothEnds.FrameListLemmas.{newest_append}
 use Rattle.ua_conn.proofs.BothEnds.HoldLemmas.{ids_of, tokens_count}
 use Rattle.ua_conn.proofs.BothEnds.OnTheWayLemmas.{past_of, Accepts}
 
 -- ---- all that stands had come
 
-place_grows : (fs : List Frame) (past : Past) → bytes_in past ≤ bytes_in (newest_first fs past)
-place_grows [] past = omega arith
-place_grows (f ∷ fs) past = omega (arith, place_grows fs (f ∷ past))
-
-come_all : (n : ℕ) (past : Past) → bytes_in past ≤ n → come_by n past ≡ past
-come_all n [] h = refl
-come_all n (f ∷ past) h = ap (λ b. cond b (f ∷ past) (come_by n past)) (le-leb (bytes_in (f ∷ past)) n h)
-
 pub stands_come : (v : List TimedByte) (hs : List Frame) → IsPrefix hs (frames_of v) → come_by (length v) (past_of hs) ≡ past_of hs
 stands_come v hs p =
     let all : newest_first p.0 (past_of hs) ≡ past_of (frames_of v) = sym (newest_append hs p.0 []) ∙ ap past_of p.1 in
-    come_all (length v) (past_of hs) (omega (arith, place_grows p.0 (past_of hs), ap bytes_in all, bytes_of_frames v))
+    come_by_all (length v) (past_of hs) (omega (arith, grows p.0 (past_of hs), ap bytes_in all, bytes_of_frames v))
 
 -- ---- tokens that came are the older ones of all
 

@@ -17,15 +17,14 @@ use Rattle.ua_channel.specs.Token.{next_token}
 use Rattle.ua_channel.specs.Channel.{most}
 use Rattle.ua_service.specs.declared.channel.OpenRequest.{OpenRequest}
 use Rattle.ua_service.specs.declared.request.Request.{Request}
-use Rattle.ua_service.specs.ValueLaws.{open_response_length}
-use Rattle.ua_channel.specs.declared.token.Token.{Token}
 use Rattle.ua_conn.specs.server.Site.{Site}
-use Rattle.ua_conn.specs.server.Answers.{opened_body, answer_body}
+use Rattle.ua_conn.specs.server.Answers.{answer_body}
 use Rattle.ua_conn.specs.Past.{Past, Agreed, Known, known, is_hello, hello_in, open_in, carried, asked_open, agreed, limits_of, limits_in}
 use Rattle.ua_conn.specs.server.Replies.{Reply, Acknowledge, Opened, Answer, Failed, spelled, more_numbered, spelled_all, part_size, is_over_limits, aborted, answer_parts, answer_to, opened_by, acknowledged, reply_by, reply_to, whole_request, replies, failing, reply_bytes, end_of, reading_of}
 use Rattle.ua_conn.specs.declared.outcome.End.{End}
 use Rattle.ua_conn.specs.declared.outcome.End.TheVariants.{Refused}
 use Rattle.ua_conn.specs.server.Feeding.{replies_of}
+use Rattle.ua_conn.proofs.ServerEnd.LengthLemmas.{opened_length}
 use Rattle.ua_conn.proofs.BothEnds.SpokenLemmas.{Spoken, Acknowledges, Fails, Opens, Tells, spell, IsSized, AreSized, spelled_list, BeginsSpoken, begins_spoken}
 
 -- ---- with their numbers
@@ -67,10 +66,6 @@ AllFit limit rs = AllByRecursion (Fits limit) rs
 all_both : (limit : ℕ) (rs qs : List Reply) → AllFit limit rs → AllFit limit qs → AllFit limit (rs ++ qs)
 all_both limit [] qs h k = k
 all_both limit (r ∷ rs) qs h k = (h.0, all_both limit rs qs h.1 k)
-
-pub opened_length : (handle now channel : ℕ) (token : Token) → length (opened_body handle now channel token) ≡ 56
-unfolding opened_body
-opened_length handle now channel token = open_response_length now handle channel token.id token.lifetime
 
 -- the agreed send limit holds the parts of an answer, and so does a larger one
 parts_fit : (limit token id k : ℕ) (body : List ℕ) (parts : List Part) → 24 + k ≤ limit → AllByRecursion (IsPartOf id k) parts → AllFit limit (map (Answer token) parts)

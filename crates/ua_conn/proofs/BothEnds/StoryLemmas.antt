@@ -8,14 +8,13 @@ use Rattle.ua_frame.specs.Rows.{first_row}
 use Rattle.ua_frame.specs.Layout.{kind_of, flag_of, frames_of, Frame}
 use Rattle.ua_frame.specs.Streams.{rest_of, TimedByte, plain}
 use Rattle.ua_frame.specs.HeaderRows.{header_fault}
-use Rattle.ua_frame.specs.declared.kind.Kind.{Kind}
 use Rattle.ua_frame.specs.declared.kind.Kind.TheVariants as kinds
 use Rattle.ua_frame.specs.declared.acknowledge.Ack.{Ack}
 use Rattle.ua_conn.specs.Past.{carried, Past}
 use Rattle.ua_conn.specs.client.Past.{is_acknowledge, is_acknowledge_frame, acknowledge_in, ClientKnown, client_known, acknowledge_frame_in}
 use Rattle.ua_conn.specs.client.Machine.{or_ack, client_known_after}
 use Rattle.ua_conn.specs.client.Faults.{broken, greatest_answer, is_awaited, acknowledge_rows, client_rows, client_fault_by, token_usable}
-use Rattle.ua_conn.specs.client.Reading.{ClientReading, client_fault_at, client_reading, client_fault, client_reading_of}
+use Rattle.ua_conn.specs.client.Reading.{client_fault_at, client_reading, client_fault, client_reading_of}
 use Rattle.ua_conn.specs.client.Pending.{bytes_in, due_at, wanted_at, come_by}
 use Rattle.ua_conn.specs.client.Asking.{standing, asking_rows, greatest_part, ask_fault}
 use Rattle.ua_conn.specs.Story.{delivered, told_by, came_by, happens, Setup, World, client_stream, server_stream}
@@ -24,6 +23,8 @@ use Rattle.ua_conn.specs.declared.client.ask_fault.AskFault.{AskFault}
 use Rattle.ua_conn.specs.declared.client.ask_fault.AskFault.TheVariants.{Ended, NotOpen}
 use Rattle.ua_conn.specs.declared.client.fault.ClientFault.{ClientFault}
 use Rattle.ua_conn.specs.declared.client.fault.ClientFault.TheVariants.{Broken}
+use Rattle.ua_conn.proofs.ClientEnd.ReadingLemmas.{along_reading}
+use Rattle.ua_conn.proofs.KindLemmas.{is_acknowledge_tells}
 use Rattle.ua_conn.proofs.TableLemmas.{all_no, or_none, first_passes}
 use Rattle.ua_conn.proofs.ClientEnd.KnownLemmas.{client_known_step}
 use Rattle.ua_frame.specs.Hello.{is_long, is_acceptable, is_size}
@@ -140,16 +141,6 @@ accepted_ack a (Some ack) h =
     let ends = and_parts (nat_le 8192 ack.receive) (nat_le ack.receive a.config.buffer) sizes.0 in
     leb-true ack.receive a.config.buffer ends.1
 
-is_acknowledge_tells : (kind : Option Kind) → is_acknowledge kind ≡ true → kind ≡ Some kinds.Acknowledge
-is_acknowledge_tells None h = absurd cc
-is_acknowledge_tells (Some kinds.Hello) h = absurd cc
-is_acknowledge_tells (Some kinds.Acknowledge) h = refl
-is_acknowledge_tells (Some kinds.Error) h = absurd cc
-is_acknowledge_tells (Some kinds.ReverseHello) h = absurd cc
-is_acknowledge_tells (Some kinds.Open) h = absurd cc
-is_acknowledge_tells (Some kinds.Message) h = absurd cc
-is_acknowledge_tells (Some kinds.Close) h = absurd cc
-
 or_within : (a : Asker) (o n : Option Ack) (test : Bool) → IfSome o (λ ack. ack.receive ≤ a.config.buffer) → (test ≡ true → IfSome n (λ ack. ack.receive ≤ a.config.buffer)) → IfSome (or_ack o test n) (λ ack. ack.receive ≤ a.config.buffer)
 or_within a None n true h k = k refl
 or_within a None n false h k = tt
@@ -175,13 +166,7 @@ step_within a cmds past f h w =
     subst (λ o. IfSome o (λ ack. ack.receive ≤ a.config.buffer)) (sym (known_ack past f)) (or_within a k.ack (acknowledge_in f) (is_acknowledge_frame f) w new)
 
 reading_within : (a : Asker) (cmds : Commands) (past : Past) (fs : List Frame) (rest : List ℕ) → Within a (client_known past) → Within a (client_known (client_reading a cmds past fs rest).past)
-reading_within a cmds past [] rest h = h
-reading_within a cmds past (f ∷ fs) rest h = by (client_fault_at a cmds past f) refl (reading_within a cmds (f ∷ past) fs rest)
-  where
-    by : (o : Option ClientFault) → client_fault_at a cmds past f ≡ o → (Within a (client_known (f ∷ past)) → Within a (client_known (client_reading a cmds (f ∷ past) fs rest).past)) →
-        (let R : ClientReading = elim o [ Some fault ↦ record { past = past; fault = Some fault } | None ↦ client_reading a cmds (f ∷ past) fs rest ] in Within a (client_known R.past))
-    by (Some fault) e k = h
-    by None e k = k (step_within a cmds past f e h)
+reading_within a cmds past fs rest h = along_reading (λ before. Within a (client_known before)) a cmds (λ before f e. step_within a cmds before f e) past fs rest h
 
 nothing_within : (a : Asker) → Within a (client_known [])
 unfolding Within client_known

@@ -15,10 +15,11 @@ use Rattle.ua_conn.specs.client.Faults.{is_id, token_usable}
 use Rattle.ua_conn.specs.client.Reading.{client_fault_at, client_reading_of}
 use Rattle.ua_conn.specs.client.Asking.{standing, asking_rows, renewing_rows, closing_rows, ask_fault}
 use Rattle.ua_conn.specs.declared.client.ask_fault.AskFault.TheVariants.{Ended, NotOpen}
+use Rattle.ua_conn.proofs.ClientEnd.ReadingLemmas.{along_reading}
 use Rattle.ua_conn.proofs.TableLemmas.{all_no}
 use Rattle.ua_conn.proofs.ClientEnd.FreshLemmas.{open_due}
 use Rattle.ua_conn.proofs.ClientEnd.RunLemmas.{AtMostOne, opening_step, shorter}
-use Rattle.ua_conn.proofs.ClientEnd.IdLemmas.{AreApart, ids_opened, opens_apart, opens_apart_part, along_reading}
+use Rattle.ua_conn.proofs.ClientEnd.IdLemmas.{AreApart, ids_opened, opens_apart, opens_apart_part}
 
 -- ---- one open response answers one open request
 

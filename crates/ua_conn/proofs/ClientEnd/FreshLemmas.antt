@@ -17,32 +17,13 @@ use Rattle.ua_conn.specs.client.Commands.{Act, Ask, Renew, Close, Commands, Aske
 use Rattle.ua_conn.specs.client.Past.{ClientKnown, client_known}
 use Rattle.ua_conn.specs.client.Pending.{bytes_in, is_among, ends_one, opening_id, ended_ids, opened_ids, wanted_at, due_at, first_id}
 use Rattle.ua_conn.specs.client.Faults.{greatest_answer, client_rows, client_fault_by, is_id, opened_rows, token_usable}
-use Rattle.ua_conn.specs.client.Reading.{ClientReading, client_fault_at, client_reading}
-use Rattle.ua_conn.specs.declared.client.fault.ClientFault.{ClientFault}
+use Rattle.ua_conn.specs.client.Reading.{client_fault_at, client_reading}
 use Rattle.ua_conn.specs.declared.client.fault.ClientFault.TheVariants.{Broken}
+use Rattle.ua_conn.proofs.ClientEnd.ReadingLemmas.{along_reading}
+use Rattle.ua_conn.proofs.KindLemmas.{is_open_tells, is_message_tells}
 use Rattle.ua_conn.proofs.TableLemmas.{AllNo, all_no, or_none}
 
 -- ---- rows of a frame that stands
-
-pub is_open_tells : (kind : Option Kind) → is_open kind ≡ true → kind ≡ Some kinds.Open
-is_open_tells None h = absurd (cc h)
-is_open_tells (Some kinds.Hello) h = absurd (cc h)
-is_open_tells (Some kinds.Acknowledge) h = absurd (cc h)
-is_open_tells (Some kinds.Error) h = absurd (cc h)
-is_open_tells (Some kinds.ReverseHello) h = absurd (cc h)
-is_open_tells (Some kinds.Open) h = refl
-is_open_tells (Some kinds.Message) h = absurd (cc h)
-is_open_tells (Some kinds.Close) h = absurd (cc h)
-
-is_message_tells : (kind : Option Kind) → is_message kind ≡ true → kind ≡ Some kinds.Message
-is_message_tells None h = absurd (cc h)
-is_message_tells (Some kinds.Hello) h = absurd (cc h)
-is_message_tells (Some kinds.Acknowledge) h = absurd (cc h)
-is_message_tells (Some kinds.Error) h = absurd (cc h)
-is_message_tells (Some kinds.ReverseHello) h = absurd (cc h)
-is_message_tells (Some kinds.Open) h = absurd (cc h)
-is_message_tells (Some kinds.Message) h = refl
-is_message_tells (Some kinds.Close) h = absurd (cc h)
 
 -- the rows of a frame that stands, by its type
 pub rows_of_kind : (a : Asker) (k : ClientKnown) (due : Option ℕ) (wanted : Option Request) (usable : Bool) (f : Frame) (kind : Option Kind) → client_fault_by a k due wanted usable f ≡ None → kind_of f.bytes ≡ kind →
@@ -179,10 +160,4 @@ fresh_step a cmds past f h fresh = record { ended = λ id le. ends id le (ends_o
         rw e (other (next_id cmds) id (opening_id (open_in f)) (opened_ids past) lt le (fresh.opened id le))
 
 pub fresh : (a : Asker) (cmds : Commands) (past : Past) (fs : List Frame) (rest : List ℕ) → AreFresh (next_id cmds) past → AreFresh (next_id cmds) (client_reading a cmds past fs rest).past
-fresh a cmds past [] rest h = h
-fresh a cmds past (f ∷ fs) rest h = by (client_fault_at a cmds past f) refl (fresh a cmds (f ∷ past) fs rest)
-  where
-    by : (o : Option ClientFault) → client_fault_at a cmds past f ≡ o → (AreFresh (next_id cmds) (f ∷ past) → AreFresh (next_id cmds) (client_reading a cmds (f ∷ past) fs rest).past) →
-        (let R : ClientReading = elim o [ Some fault ↦ record { past = past; fault = Some fault } | None ↦ client_reading a cmds (f ∷ past) fs rest ] in AreFresh (next_id cmds) R.past)
-    by (Some fault) e k = h
-    by None e k = k (fresh_step a cmds past f e h)
+fresh a cmds past fs rest h = along_reading (λ before. AreFresh (next_id cmds) before) a cmds (fresh_step a cmds) past fs rest h

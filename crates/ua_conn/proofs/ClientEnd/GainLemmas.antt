@@ -53,7 +53,7 @@ numbers_are_next : (first n : ℕ) (xs : List Sent) → 1 ≤ first → number_a
 numbers_are_next first n [] h = refl
 numbers_are_next first n (x ∷ xs) h = numbers_are_next first (more_sent n x) xs h ∙ ap (λ k. next_sent k xs) (one_number first n x h)
 
-after_append : (n : ℕ) (xs ys : List Sent) → sent_after n (xs ++ ys) ≡ sent_after (sent_after n xs) ys
+pub after_append : (n : ℕ) (xs ys : List Sent) → sent_after n (xs ++ ys) ≡ sent_after (sent_after n xs) ys
 after_append n [] ys = refl
 after_append n (x ∷ xs) ys = after_append (more_sent n x) xs ys
 
@@ -80,7 +80,7 @@ reading_goes a cmds past (f ∷ fs) gs rest rest' e =
     goes_cases (client_fault_at a cmds past f) past (newest_first fs (f ∷ past)) (client_reading a cmds (f ∷ past) fs rest) (client_reading a cmds (f ∷ past) (fs ++ gs) rest') (client_reading a cmds (newest_first fs (f ∷ past)) gs rest')
     (reading_goes a cmds (f ∷ past) fs gs rest rest') e
 
-come_by_all : (n : ℕ) (past : Past) → bytes_in past ≤ n → come_by n past ≡ past
+pub come_by_all : (n : ℕ) (past : Past) → bytes_in past ≤ n → come_by n past ≡ past
 come_by_all n [] le = refl
 come_by_all n (f ∷ past) le = ap (λ b. cond b (f ∷ past) (come_by n past)) (le-leb (bytes_in (f ∷ past)) n le)
 

@@ -1,30 +1,14 @@
--- Ids of commands: each is below the next one, no two are the same, and what frames answered is among those that were given.
-use Rattle.std.proofs.Common.{◌≡◌, ℕ, ◌<◌, ◌≤◌, Bool, true, false, cond, List, [], ◌∷◌, ◌++◌, map, Option, Some, None, refl, sym, ap, subst, ◌∙◌, arith, ◌⊎◌, inl, inr}
+-- Ids of open requests, of which no two are the same, and ids that are not given yet.
+use Rattle.std.proofs.Common.{◌≡◌, ℕ, ◌<◌, ◌≤◌, Bool, true, false, cond, List, [], ◌∷◌, ◌++◌, map, refl, sym, ap, subst, ◌∙◌, arith}
 use Rattle.std.specs.Prelude.{◌==◌, ◌||◌}
 use Rattle.std.specs.List.{filter}
 use Rattle.std.proofs.lemmas.List.{append-nil, map-append}
-use Rattle.std.proofs.lemmas.Bool.{or_parts, eq-eqb, cases_lt, ne_eqb}
+use Rattle.std.proofs.lemmas.Bool.{or_parts, ne_eqb}
 use Rattle.ua_frame.specs.Layout.{Frame, kind_of}
 use Rattle.ua_conn.specs.Past.{Past, is_open, carried, open_in}
-use Rattle.ua_conn.specs.client.Asker.{Asker}
 use Rattle.ua_conn.specs.client.Commands.{Act, Ask, Renew, Close, Commands, OpenAsked, opens_asked, opens_by, next_id}
 use Rattle.ua_conn.specs.client.Pending.{is_among, ends_one, opening_id, ended_ids, opened_ids}
-use Rattle.ua_conn.specs.client.Reading.{ClientReading, client_fault_at, client_reading}
-use Rattle.ua_conn.specs.declared.client.fault.ClientFault.{ClientFault}
 use Rattle.ua_conn.proofs.ClientEnd.FreshLemmas.{OpensBelow, AreFresh, opens_below}
-
--- ---- what is true of every frame that stands
-
--- what each frame that stands keeps is true of a reading
-pub along_reading : (Q : Past → Type 0) (a : Asker) (cmds : Commands) → ((past : Past) (f : Frame) → client_fault_at a cmds past f ≡ None → Q past → Q (f ∷ past)) →
-    (past : Past) (fs : List Frame) (rest : List ℕ) → Q past → Q (client_reading a cmds past fs rest).past
-along_reading Q a cmds step past [] rest h = h
-along_reading Q a cmds step past (f ∷ fs) rest h = by (client_fault_at a cmds past f) refl (along_reading Q a cmds step (f ∷ past) fs rest)
-  where
-    by : (o : Option ClientFault) → client_fault_at a cmds past f ≡ o → (Q (f ∷ past) → Q (client_reading a cmds (f ∷ past) fs rest).past) →
-        (let R : ClientReading = elim o [ Some fault ↦ record { past = past; fault = Some fault } | None ↦ client_reading a cmds (f ∷ past) fs rest ] in Q R.past)
-    by (Some fault) e k = h
-    by None e k = k (step past f e h)
 
 -- ---- no two are the same
 
@@ -101,14 +85,3 @@ fresh_before n past f h = record { ended = λ id le. ends id le (ends_one f) ref
     opens id le true e =
         let same : opened_ids (f ∷ past) ≡ opening_id (open_in f) ∷ opened_ids past = rw e refl in
         (or_parts (opening_id (open_in f) == id) (is_among (opened_ids past) id) (sym (ap (λ ids. is_among ids id) same) ∙ h.opened id le)).1
-
--- a whole message's id is one that was given
-pub ended_given : (n : ℕ) (past : Past) (f : Frame) → AreFresh n (f ∷ past) → ends_one f ≡ true → (carried f).request_id < n
-ended_given n past f h e = by (cases_lt (carried f).request_id n)
-  where
-    by : ((carried f).request_id < n) ⊎ (n ≤ (carried f).request_id) → (carried f).request_id < n
-    by (inl lt) = lt
-    by (inr le) =
-        let same : ended_ids (f ∷ past) ≡ (carried f).request_id ∷ ended_ids past = rw e refl in
-        let no = (or_parts ((carried f).request_id == (carried f).request_id) (is_among (ended_ids past) (carried f).request_id) (sym (ap (λ ids. is_among ids (carried f).request_id) same) ∙ h.ended (carried f).request_id le)).0 in
-        absurd (let c : true ≡ false = sym (eq-eqb (carried f).request_id (carried f).request_id refl) ∙ no in cc c)

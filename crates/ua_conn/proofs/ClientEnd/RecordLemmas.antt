@@ -35,45 +35,36 @@ refused_by_record a log act s =
 
 -- ---- frames
 
+-- where all that a test passes is kept in two lists, so it is in both together
+kept_join : {X : Type 0} (p test : X → Bool) (xs ys : List X) → filter p (filter test xs) ≡ filter test xs → filter p (filter test ys) ≡ filter test ys → filter p (filter test (xs ++ ys)) ≡ filter test (xs ++ ys)
+kept_join p test xs ys h k = ap (filter p) (filter-append test xs ys) ∙ filter-append p (filter test xs) (filter test ys) ∙ (λ i. h i ++ k i) ∙ sym (filter-append test xs ys)
+
+kept_one : {X : Type 0} (p test : X → Bool) (x : X) → p x ≡ true → filter p (filter test (x ∷ [])) ≡ filter test (x ∷ [])
+kept_one {X} p test x e = by (test x)
+  where
+    by : (b : Bool) → filter p (cond b (x ∷ []) []) ≡ cond b (x ∷ []) []
+    by true = ap (λ (c : Bool). cond c (x ∷ []) []) e
+    by false = refl
+
 -- what was asked by a place was asked before a later one
 all_asked : (n end : ℕ) (cmds : Commands) → n < end → AllSeen n cmds → (test : Asked → Bool) → filter (λ a. nat_lt a.seen end) (filter test (asked_in cmds)) ≡ filter test (asked_in cmds)
 unfolding AllSeen
 all_asked n end [] lt h test = refl
-all_asked n end (c ∷ cmds) lt h test =
-    ap (filter (λ a. nat_lt a.seen end)) (filter-append test (asked_in cmds) (asked_by (next_id cmds) c.seen c.act))
-    ∙ filter-append (λ a. nat_lt a.seen end) (filter test (asked_in cmds)) (filter test (asked_by (next_id cmds) c.seen c.act))
-    ∙ (λ i. all_asked n end cmds lt h.1 test i ++ of_one c.act i)
-    ∙ sym (filter-append test (asked_in cmds) (asked_by (next_id cmds) c.seen c.act))
+all_asked n end (c ∷ cmds) lt h test = kept_join (λ (a : Asked). nat_lt a.seen end) test (asked_in cmds) (asked_by (next_id cmds) c.seen c.act) (all_asked n end cmds lt h.1 test) (of_one c.act)
   where
-    one : (x : Asked) (b : Bool) → nat_lt x.seen end ≡ true → filter (λ (a : Asked). nat_lt a.seen end) (cond b (x ∷ []) []) ≡ cond b (x ∷ []) []
-    one x true e = rw e refl
-    one x false e = refl
-
     of_one : (act : Act) → filter (λ (a : Asked). nat_lt a.seen end) (filter test (asked_by (next_id cmds) c.seen act)) ≡ filter test (asked_by (next_id cmds) c.seen act)
-    of_one (Ask request part) = let x : Asked = record { id = next_id cmds; request = request; seen = c.seen } in one x (test x) (lt-ltb c.seen end (omega (arith, lt, h.0)))
+    of_one (Ask request part) = kept_one (λ (a : Asked). nat_lt a.seen end) test (record { id = next_id cmds; request = request; seen = c.seen }) (lt-ltb c.seen end (omega (arith, lt, h.0)))
     of_one Renew = refl
     of_one Close = refl
 
 all_opens : (n end : ℕ) (cmds : Commands) → n < end → AllSeen n cmds → (test : OpenAsked → Bool) → filter (λ r. nat_lt r.seen end) (filter test (opens_asked cmds)) ≡ filter test (opens_asked cmds)
 unfolding AllSeen
-all_opens n end [] lt h test = one (record { id = 1; seen = 0 }) (test (record { id = 1; seen = 0 })) (lt-ltb 0 end (omega (arith, lt)))
+all_opens n end [] lt h test = kept_one (λ (r : OpenAsked). nat_lt r.seen end) test (record { id = 1; seen = 0 }) (lt-ltb 0 end (omega (arith, lt)))
+all_opens n end (c ∷ cmds) lt h test = kept_join (λ (r : OpenAsked). nat_lt r.seen end) test (opens_asked cmds) (opens_by (next_id cmds) c.seen c.act) (all_opens n end cmds lt h.1 test) (of_one c.act)
   where
-    one : (x : OpenAsked) (b : Bool) → nat_lt x.seen end ≡ true → filter (λ (a : OpenAsked). nat_lt a.seen end) (cond b (x ∷ []) []) ≡ cond b (x ∷ []) []
-    one x true e = rw e refl
-    one x false e = refl
-all_opens n end (c ∷ cmds) lt h test =
-    ap (filter (λ r. nat_lt r.seen end)) (filter-append test (opens_asked cmds) (opens_by (next_id cmds) c.seen c.act))
-    ∙ filter-append (λ r. nat_lt r.seen end) (filter test (opens_asked cmds)) (filter test (opens_by (next_id cmds) c.seen c.act))
-    ∙ (λ i. all_opens n end cmds lt h.1 test i ++ of_one c.act i)
-    ∙ sym (filter-append test (opens_asked cmds) (opens_by (next_id cmds) c.seen c.act))
-  where
-    one : (x : OpenAsked) (b : Bool) → nat_lt x.seen end ≡ true → filter (λ (a : OpenAsked). nat_lt a.seen end) (cond b (x ∷ []) []) ≡ cond b (x ∷ []) []
-    one x true e = rw e refl
-    one x false e = refl
-
-    of_one : (act : Act) → filter (λ (a : OpenAsked). nat_lt a.seen end) (filter test (opens_by (next_id cmds) c.seen act)) ≡ filter test (opens_by (next_id cmds) c.seen act)
+    of_one : (act : Act) → filter (λ (r : OpenAsked). nat_lt r.seen end) (filter test (opens_by (next_id cmds) c.seen act)) ≡ filter test (opens_by (next_id cmds) c.seen act)
     of_one (Ask request part) = refl
-    of_one Renew = let x : OpenAsked = record { id = next_id cmds; seen = c.seen } in one x (test x) (lt-ltb c.seen end (omega (arith, lt, h.0)))
+    of_one Renew = kept_one (λ (r : OpenAsked). nat_lt r.seen end) test (record { id = next_id cmds; seen = c.seen }) (lt-ltb c.seen end (omega (arith, lt, h.0)))
     of_one Close = refl
 
 -- the request of an id, among those that wait

@@ -6,6 +6,7 @@ use Rattle.ua_frame.specs.Rows.{first_row}
 use Rattle.ua_chunk.specs.Numbers.{number_after}
 use Rattle.ua_chunk.specs.NumberLaws.{IsNumber, number_is, number_after_none, number_after_more}
 use Rattle.ua_chunk.specs.Cut.{Part, part_count, fill}
+use Rattle.ua_chunk.specs.CutLaws.{length-fill}
 use Rattle.ua_chunk.specs.Written.{open_frame, part_frame, close_frame, message_frames}
 use Rattle.ua_channel.specs.Token.{newest_id}
 use Rattle.ua_service.specs.declared.request.Request.{Request}
@@ -25,7 +26,6 @@ use Rattle.ua_conn.specs.client.Taking.{ClientRunning}
 use Rattle.ua_conn.specs.client.Telling.{against, waits_for, waits_open, numbered_to, waiting_to, shown_of}
 use Rattle.ua_conn.specs.declared.client.ask_fault.AskFault.{AskFault}
 use Rattle.ua_conn.specs.declared.client.ask_fault.AskFault.TheVariants as reasons
-use Rattle.ua_conn.proofs.ServerEnd.ReplyLemmas.{fill_count}
 use Rattle.ua_conn.proofs.ClientEnd.FreshLemmas.{find_new, asked_below, below_filter}
 use Rattle.ua_conn.proofs.ClientEnd.RecordLemmas.{refused_by_record, under_same}
 use Rattle.ua_conn.proofs.ClientEnd.GainLemmas.{told_gained}
@@ -62,7 +62,7 @@ request_frames channel token n parts h = frames_from channel token n 0 parts h.s
 request_next : (channel token n id part : ℕ) (body : List ℕ) → IsNumber n → number_after n (part_count (length body) part) ≡ next_sent n (map (Asking channel token) (fill id body part))
 request_next channel token n id part body h =
     let parts = fill id body part in
-    let count : part_count (length body) part ≡ 0 + length parts = sym (fill_count id part body) ∙ omega arith in
+    let count : part_count (length body) part ≡ 0 + length parts = sym (length-fill id part body) ∙ omega arith in
     ap (number_after n) count ∙ sym (next_from channel token n 0 parts h.some) ∙ ap (λ m. next_sent m (map (Asking channel token) parts)) (number_after_none n h)
 
 -- ---- what a log says of what is held

@@ -14,7 +14,7 @@ use Rattle.ua_conn.specs.server.Held.{newest_first}
 use Rattle.ua_conn.specs.server.Legal.{joined_body, IsChunk, IsOpening, AreParts, FitTheLimits, Turn, Renewal, Message, Dropped, turn_frames, IsTurn, AreTurns, all_frames, Tail, NoTail, Close, tail_frames, IsTail, CanDrop}
 use Rattle.ua_conn.proofs.ServerEnd.RowLemmas.{Fine, AreFine, tells, Admits, Part, part_tells, close_tells, OpenAt, open_tells}
 use Rattle.ua_conn.proofs.ServerEnd.AbortLemmas.{can_drop}
-use Rattle.ua_conn.proofs.ServerEnd.ReadyLemmas.{half_of, Ready, newest_last, half_bodies, half_counts, allowed_ready, part_ready, last_ready, opn_ready}
+use Rattle.ua_conn.proofs.ServerEnd.ReadyLemmas.{half_of, Ready, newest_last, half_bodies, half_counts, allowed_ready, part_ready, last_ready, opn_ready, newest_append}
 use Rattle.ua_service.specs.ChannelMessages.{close_of}
 use Rattle.ua_service.specs.Requests.{request_of}
 
@@ -91,12 +91,8 @@ turn_then site past t fs h g = record {
   tail = g.tail;
   frames = append_assoc (turn_frames t) fs g.more ∙ ap (λ l. turn_frames t ++ l) g.frames ∙ sym (append_assoc (turn_frames t) (all_frames g.turns) (tail_frames g.tail));
   turns_are = (h, g.turns_are);
-  tail_is = subst (λ p. IsTail site p g.tail) (sym (newest_two (turn_frames t) (all_frames g.turns) past)) g.tail_is;
+  tail_is = subst (λ p. IsTail site p g.tail) (sym (newest_append (turn_frames t) (all_frames g.turns) past)) g.tail_is;
 }
-  where
-    newest_two : (xs ys : List Frame) (past : Past) → newest_first (xs ++ ys) past ≡ newest_first ys (newest_first xs past)
-    newest_two [] ys past = refl
-    newest_two (x ∷ xs) ys past = newest_two xs ys (x ∷ past)
 
 -- a CLO came
 close_here : (site : Site) (past : Past) (parts : List Frame) (id : ℕ) (f : Frame) → At site past parts id → IsChunk site (newest_first parts past) kinds.Close 70 f → is_some (close_of (carried f).body) ≡ true → Grown site past (parts ++ f ∷ [])

@@ -27,9 +27,12 @@ pub record Ready (k : Known) (h : Option Half) : Type 0 where
   pub tokens : (length k.tokens == 0) ≡ false
   pub half : k.half ≡ h
 
+pub newest_append : (xs ys : List Frame) (past : Past) → newest_first (xs ++ ys) past ≡ newest_first ys (newest_first xs past)
+newest_append [] ys past = refl
+newest_append (x ∷ xs) ys past = newest_append xs ys (x ∷ past)
+
 pub newest_last : (parts : List Frame) (f : Frame) (past : Past) → newest_first (parts ++ f ∷ []) past ≡ f ∷ newest_first parts past
-newest_last [] f past = refl
-newest_last (p ∷ ps) f past = newest_last ps f (p ∷ past)
+newest_last parts f past = newest_append parts (f ∷ []) past
 
 pub half_more : (id : ℕ) (parts : List Frame) (p : Frame) → (carried p).request_id ≡ id → Some (with_part (half_of id parts) (carried p).request_id (carried p).body) ≡ half_of id (parts ++ p ∷ [])
 half_more id [] p e = λ i. Some (record { id = e i; body = sym (append-nil (carried p).body) i; parts = 1 })

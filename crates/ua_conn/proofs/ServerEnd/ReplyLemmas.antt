@@ -2,12 +2,12 @@
 use Rattle.std.proofs.Common.{◌≡◌, ℕ, ◌+◌, ◌≤◌, false, cond, List, [], ◌∷◌, ◌++◌, map, length, Result, refl, sym, ap, ◌∙◌, arith}
 use Rattle.std.specs.Prelude.{is_ok, if◌then◌else◌}
 use Rattle.std.proofs.lemmas.List.{append-nil}
-use Rattle.std.proofs.lemmas.List.FromFn.{length-map-range_with_len}
 use Rattle.ua_frame.specs.Hello.{acknowledge_frame}
 use Rattle.ua_frame.specs.declared.acknowledge.Ack.{Ack}
 use Rattle.ua_chunk.specs.Numbers.{number_after}
 use Rattle.ua_chunk.specs.NumberLaws.{IsNumber, number_after_none, number_after_more}
 use Rattle.ua_chunk.specs.Cut.{Part, part_count, fill}
+use Rattle.ua_chunk.specs.CutLaws.{length-fill}
 use Rattle.ua_chunk.specs.Written.{open_frame, part_frame, message_frames}
 use Rattle.ua_conn.specs.server.Site.{Site}
 use Rattle.ua_conn.specs.Past.{Agreed}
@@ -50,12 +50,8 @@ answer_next token n parts h =
 
 -- ---- one abort, or the parts
 
-pub fill_count : (id k : ℕ) (body : List ℕ) → length (fill id body k) ≡ part_count (length body) k
-unfolding fill
-fill_count id k body = length-map-range_with_len _ 0 (part_count (length body) k)
-
 pub parts_numbered : {T E : Type 0} (r : Result T E) (n m id : ℕ) (agreed : Agreed) (body : List ℕ) → is_over_limits agreed body ≡ false →
     m ≡ (if is_ok r then number_after n (part_count (length body) (part_size agreed)) else n) → m ≡ (if is_ok r then number_after n (length (answer_parts agreed id body)) else n)
 parts_numbered r n m id agreed body over e =
-    e ∙ ap (λ c. if is_ok r then number_after n c else n) (sym (fill_count id (part_size agreed) body))
+    e ∙ ap (λ c. if is_ok r then number_after n c else n) (sym (length-fill id (part_size agreed) body))
     ∙ ap (λ b. if is_ok r then number_after n (length (cond b (aborted id 0x80B90000 ∷ []) (fill id body (part_size agreed)))) else n) (sym over)

@@ -18,7 +18,7 @@ use Rattle.ua_chunk.specs.Half.{body_of, parts_of, may_have_id}
 use Rattle.ua_channel.specs.Token.{newest_id, is_usable}
 use Rattle.ua_channel.specs.Admission.{follows_last, is_text, is_int, admit_open_rows}
 use Rattle.ua_conn.specs.Past.{Past, Known, known, is_close, carried, hello_in, open_in}
-use Rattle.ua_conn.specs.server.Faults.{fault_at, frame_rows, is_allowed, greatest_frame, channel_of, request_rows, open_rows}
+use Rattle.ua_conn.specs.server.Faults.{fault_at, frame_rows, is_allowed, greatest_frame, channel_of, request_rows, open_rows, names_usable, chunk_rows_by, message_rows, close_rows}
 use Rattle.ua_conn.specs.server.Legal.{IsWhole, HasSize, IsFaultless}
 use Rattle.ua_service.specs.ChannelMessages.{open_of, close_of}
 use Rattle.ua_service.specs.Requests.{request_of}
@@ -117,6 +117,16 @@ none_no (Some a) h = refl
 pub least_size : {k : Known} {f : Frame} → HasSize k f → 8 ≤ size_of f.bytes
 least_size h = omega (arith, h.whole.frame.header, h.whole.frame.whole)
 
+-- of the rows of a MSG or CLO, the first that are its channel's
+admits_here : (site : Site) (k : Known) (f : Frame) (more : List Row) → HasSize k f → AllNo (chunk_rows_by site k f (names_usable k f) ++ more) → Admits site k f
+admits_here site k f more size h = record {
+  size = size;
+  layout = some_of _ h.0;
+  channel = eqb-true _ _ (not-false _ h.1.0);
+  token = not-false _ h.1.1.0;
+  number = not-false _ h.1.1.1.0;
+}
+
 -- a MSG of a flag
 pub part_tells : (site : Site) (k : Known) (f : Frame) (flag : ℕ) → IsWhole f → AllNo (all_rows site k f (Some kinds.Message) flag) → Part site k flag f
 part_tells site k f flag w h =
@@ -124,13 +134,7 @@ part_tells site k f flag w h =
     let t9 = t5.1.1.1.1 in
     let c = carried f in
     record {
-      admits = record {
-        size = record { whole = w; least = ltb-false _ _ h.1.1.1.0 };
-        layout = some_of _ t5.0;
-        channel = eqb-true _ _ (not-false _ t5.1.0);
-        token = not-false _ t5.1.1.0;
-        number = not-false _ t5.1.1.1.0;
-      };
+      admits = admits_here site k f (message_rows site k flag c) (record { whole = w; least = ltb-false _ _ h.1.1.1.0 }) t5;
       opened = not-false _ h.1.1.1.1.0;
       id = not-false _ t9.0;
       count = λ e. ltb-false _ _ (or_parts _ _ (if_holds (not (flag == 65)) _ t9.1.0 e)).0;
@@ -188,13 +192,7 @@ pub close_tells : (site : Site) (k : Known) (f : Frame) (flag : ℕ) → IsWhole
 close_tells site k f flag w h =
     let t5 = h.1.1.1.1.1 in
     record {
-      admits = record {
-        size = record { whole = w; least = ltb-false _ _ h.1.1.1.0 };
-        layout = some_of _ t5.0;
-        channel = eqb-true _ _ (not-false _ t5.1.0);
-        token = not-false _ t5.1.1.0;
-        number = not-false _ t5.1.1.1.0;
-      };
+      admits = admits_here site k f (close_rows (carried f)) (record { whole = w; least = ltb-false _ _ h.1.1.1.0 }) t5;
       opened = not-false _ h.1.1.1.1.0;
       close = not-false _ t5.1.1.1.1.0;
     }

@@ -14,6 +14,7 @@ mod hello;
 mod message;
 mod opening;
 
+use crate::limits::GREATEST_FIRST_FRAME;
 use crate::server::agreed::Agreed;
 use crate::server::fault::Fault;
 use std::alloc::{AllocError, Global};
@@ -25,9 +26,6 @@ use ua_frame::status::BAD_TCP_MESSAGE_TYPE_INVALID;
 use ua_frame::{Frame, Kind};
 use ua_service::Request;
 use ua_value::NoMemory;
-
-/// The greatest frame before an Acknowledge. OPC 10000-6, 7.1.2.3.
-const GREATEST_FIRST_FRAME: u32 = 8192;
 
 /// What a whole frame did.
 #[derive(Clone, Copy)]
