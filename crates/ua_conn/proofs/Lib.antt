@@ -5,3 +5,4 @@ pub mod ServerEnd
 pub mod Vectors
 pub mod BothEnds
 pub mod ClientEnd
+pub mod BufferedLemmas

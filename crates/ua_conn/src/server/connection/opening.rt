@@ -104,6 +104,7 @@ impl<'a> Connection<'a> {
         ensures does { (asked : List Asked) → Does (open_effect self.old.site self.old.known now (open_chunk_of frame.now.fields)) self.old self.new
             (record { bytes = out.old.items; asked = asked }) (record { bytes = out.new.items; asked = asked }) result }
         ensures moment { self.new.moment ≤ now }
+        ensures site { self.new.site ≡ self.old.site }
     {
         let opening = opening_of(frame)?;
         admit(&mut self.channel, &self.half, &opening)?;
