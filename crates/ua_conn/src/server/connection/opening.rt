@@ -84,7 +84,7 @@ fn opened_body(alloc: Global, channel: u32, granted: Granted, now: u64) -> Resul
     ensures { IfOk result (λ body. body.items ≡ opened_body granted.handle now channel (record { id = granted.token; issued = now; lifetime = granted.lifetime })) }
 {
     let response = OpenResponse {
-        header: response_header(alloc, now as i64, granted.handle, GOOD),
+        header: response_header(now as i64, granted.handle, GOOD),
         server_protocol_version: VERSION,
         channel_id: channel,
         token_id: granted.token,
