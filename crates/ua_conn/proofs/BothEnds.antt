@@ -1,7 +1,6 @@
 pub mod WorkedStories
 pub mod UnmetPremises
 pub mod FaithfulLemmas
-pub mod TokenLemmas
 pub mod PremiseLemmas
 pub mod OnTheWayLemmas
 pub mod SpokenLemmas
@@ -10,7 +9,6 @@ pub mod SpokenEffectLemmas
 pub mod SpokenAnswerLemmas
 pub mod SpokenRequestLemmas
 pub mod SpokenTurnLemmas
-pub mod SpokenStreamLemmas
 pub mod SpokenSessionLemmas
 pub mod SettingsLemmas
 pub mod StoryLemmas

@@ -1,6 +1,8 @@
 -- What is read from the values of a table.
 use Rattle.std.specs.Prelude.{ℕ, ℤ, pos, suc, ◌+◌, ◌++◌, ◌&&◌, Bool, List, [], ◌∷◌, Option, Some, None, Result, Ok, Err, length, nat_le, if◌then◌else◌}
 use Rattle.std.specs.List.{list_any}
+use Rattle.std.specs.Ordering.{nat_cmp, is_gt}
+use Rattle.std.specs.Cmp.Lexicographic.{slice_cmp}
 use Rattle.std.specs.Str.{bytes_eq}
 use Rattle.std.specs.Fmt.{decimal}
 use Rattle.toml.specs.Data.{Data, Items, no_items, item, Members, no_members, member, get_member, as_str, as_integer, as_array, as_table}
@@ -101,14 +103,19 @@ integer least most default prefix key ms = number_there (prefix ++ key) least mo
 abbrev pub is_known : List (List ℕ) → List ℕ → Bool
 is_known known key = list_any (λ k. bytes_eq k key) known
 
--- the least key that is not among these: a table's keys ascend
-abbrev pub first_unknown : List (List ℕ) → Members → Option (List ℕ)
-first_unknown known no_members = None
-first_unknown known (member k d ms) = if is_known known k then first_unknown known ms else Some k
+-- the lesser key, by their bytes
+abbrev pub lesser : List ℕ → Option (List ℕ) → List ℕ
+lesser k None = k
+lesser k (Some l) = if is_gt (slice_cmp nat_cmp k l) then l else k
+
+-- the least key that is not among these, whatever order the keys stand in
+abbrev pub least_unknown : List (List ℕ) → Members → Option (List ℕ)
+least_unknown known no_members = None
+least_unknown known (member k d ms) = if is_known known k then least_unknown known ms else Some (lesser k (least_unknown known ms))
 
 abbrev pub refuse : List ℕ → Option (List ℕ) → Result (Unit {0}) Fault
 refuse prefix None = Ok tt
 refuse prefix (Some k) = Err (unknown_key (prefix ++ k))
 
 unfoldable pub keys_known : List (List ℕ) → List ℕ → Members → Result (Unit {0}) Fault
-keys_known known prefix ms = refuse prefix (first_unknown known ms)
+keys_known known prefix ms = refuse prefix (least_unknown known ms)

@@ -7,7 +7,7 @@ ghost use Rattle.toml.specs.Data.{Data, get_member};
 ghost use Rattle.toml.specs.View.{view, table_view, array_view};
 ghost use Rattle.ua_disco.specs.Bounds.{IsShort, IsCertificate};
 ghost use Rattle.ua_disco.specs.Faults.{Fault, IsFault, Gives, missing, wrong_kind, bad_value, unknown_key};
-ghost use Rattle.ua_disco.specs.Reading.{text_value, certificate_value, items_value, counted_items, list_value, optional, required, integer, is_known, first_unknown, keys_known};
+ghost use Rattle.ua_disco.specs.Reading.{text_value, certificate_value, items_value, counted_items, list_value, optional, required, integer, is_known, least_unknown, keys_known};
 
 use crate::fault::SettingsFault;
 use std::alloc::{AllocError, Global};
@@ -311,8 +311,7 @@ pub(crate) fn read_integer(
     }
 }
 
-/// A whole number from `least` to `most` of at most a byte, or the default where the key is absent.
-#[tactic(auto, unfolding(crate::specs::Reading::integer))]
+/// The same where the greatest number is at most that of a byte.
 pub(crate) fn read_byte(
     alloc: Global,
     table: &Table,
@@ -321,20 +320,13 @@ pub(crate) fn read_byte(
     range: (u8, u8),
     default: u8,
 ) -> Result<u8, SettingsFault>
+    requires { (range.0 ≤ default) × (default ≤ range.1) }
     ensures { Gives (λ n. n) (integer range.0 range.1 (Some default) prefix.now key.now (table_view table.now)) result }
 {
-    let Some(value) = value_at(table, key) else {
-        return Ok(default);
-    };
-    let Ok(path) = path_of(alloc, prefix, key) else {
-        return Err(SettingsFault::NoMemory);
-    };
-    let Some(found) = value.as_integer() else {
-        return Err(is_wrong_kind(alloc, path.as_str()));
-    };
-    match u8::try_from(found) {
-        Ok(n) if range.0 <= n && n <= range.1 => Ok(n),
-        _ => Err(is_bad_value(alloc, path.as_str())),
+    let range = (u32::from(range.0), u32::from(range.1));
+    match read_integer(alloc, table, prefix, key, range, Some(u32::from(default))) {
+        Ok(n) => Ok(n as u8),
+        Err(fault) => Err(fault),
     }
 }
 
@@ -350,10 +342,11 @@ fn is_one_of(known: &[&str], key: &str) -> bool
 }
 
 /// The least key of a table that is not among the known ones.
+#[tactic(auto, using(crate::proofs::Least::first_is_least))]
 fn unknown_in<'a>(table: &'a Table, known: &[&str]) -> Option<&'a str>
-    ensures { option_map (λ k. k.now) result ≡ first_unknown (map (λ k. k.now) known.now) (table_view table.now) }
+    ensures { option_map (λ k. k.now) result ≡ least_unknown (map (λ k. k.now) known.now) (table_view table.now) }
 {
-    for (key, _) in table {
+    for (key, _) in table.iter() {
         if !is_one_of(known, key.as_str()) {
             return Some(key.as_str());
         }

@@ -1,6 +1,6 @@
 use Rattle.std.proofs.Common.{◌≡◌, map}
 use Rattle.toml.specs.View.{table_view, members_view}
-use Rattle.ua_disco.specs.Reading.{first_unknown}
+use Rattle.ua_disco.proofs.Least.{first_unknown}
 use Rattle.ua_disco.proofs.reading.unknown_in.Given as goal
 
 abbrev pub invariant-loop-key : goal.invariant-loop-key
