@@ -1,4 +1,5 @@
 pub mod WorkedStories
+pub mod UnmetPremises
 pub mod FaithfulLemmas
 pub mod PremiseLemmas
 pub mod OnTheWayLemmas
