@@ -33,13 +33,17 @@ abbrev pub is_int : ℕ → ℤ → Bool
 is_int n (pos m) = m == n
 is_int n (negsuc m) = false
 
--- an OPN: open channel, policy, open sequence number
-abbrev pub admit_open_rows : Channel → OpenChunk → List Row
-admit_open_rows c opening =
-    (not (opening.channel == awaited_channel c), 0x807F0000)
+-- An OPN, at either end: open channel, policy, open sequence number. Whether it names another channel is said apart.
+abbrev pub opening_rows_by : Option ℕ → OpenChunk → Bool → List Row
+opening_rows_by last opening is_other =
+    (is_other, 0x807F0000)
     ∷ (not (is_text policy_none opening.policy), 0x80550000)
-    ∷ (not (follows_last c.last opening.sequence), 0x80880000)
+    ∷ (not (follows_last last opening.sequence), 0x80880000)
     ∷ []
+
+-- at the server
+abbrev pub admit_open_rows : Channel → OpenChunk → List Row
+admit_open_rows c opening = opening_rows_by c.last opening (not (opening.channel == awaited_channel c))
 
 -- its open request: request type, security mode, token ids spent
 abbrev pub issue_rows : Channel → OpenRequest → List Row

@@ -8,11 +8,9 @@ ghost use Rattle.ua_channel.specs.Channel.{new_channel, numbered, renewed, heard
 ghost use Rattle.ua_channel.specs.Admission.{admit_open_rows, issue_rows, admit_rows};
 
 use crate::newest::Newest;
-use crate::rules::{follows_last, is_policy_none, later};
+use crate::rules::{judge, judge_open, later};
 use crate::status::{
-    BAD_REQUEST_TYPE_INVALID, BAD_SECURE_CHANNEL_TOKEN_UNKNOWN, BAD_SECURITY_MODE_REJECTED,
-    BAD_SECURITY_POLICY_REJECTED, BAD_SEQUENCE_NUMBER_INVALID, BAD_TCP_NOT_ENOUGH_RESOURCES,
-    BAD_TCP_SECURE_CHANNEL_UNKNOWN,
+    BAD_REQUEST_TYPE_INVALID, BAD_SECURITY_MODE_REJECTED, BAD_TCP_NOT_ENOUGH_RESOURCES,
 };
 use crate::token::{Token, revised};
 use std::marker::Model;
@@ -88,15 +86,7 @@ impl ServerChannel {
         ensures unchanged { OnErr result (self.new ≡ self.old) }
     {
         let awaited = if self.tokens.is_none() { 0 } else { self.id };
-        if chunk.channel() != awaited {
-            return Err(BAD_TCP_SECURE_CHANNEL_UNKNOWN);
-        }
-        if !is_policy_none(chunk.policy()) {
-            return Err(BAD_SECURITY_POLICY_REJECTED);
-        }
-        if !follows_last(self.last, chunk.sequence()) {
-            return Err(BAD_SEQUENCE_NUMBER_INVALID);
-        }
+        judge_open(chunk.channel() != awaited, self.last, chunk)?;
         self.last = Some(chunk.sequence());
         Ok(())
     }
@@ -158,16 +148,8 @@ impl ServerChannel {
             self.new ≡ record { channel = heard self.old.channel chunk.now.chunk.token chunk.now.chunk.sequence; moment = max self.old.moment (moment_of now) }) }
         ensures unchanged { OnErr result (self.new ≡ self.old) }
     {
-        if chunk.channel() != self.id {
-            return Err(BAD_TCP_SECURE_CHANNEL_UNKNOWN);
-        }
         let now = later(self.moment, now);
-        if !self.tokens.is_usable(chunk.token(), now) {
-            return Err(BAD_SECURE_CHANNEL_TOKEN_UNKNOWN);
-        }
-        if !follows_last(self.last, chunk.sequence()) {
-            return Err(BAD_SEQUENCE_NUMBER_INVALID);
-        }
+        judge(self.id, self.tokens, self.last, chunk, now)?;
         self.last = Some(chunk.sequence());
         note_used(&mut self.used, chunk.token());
         self.moment = now;

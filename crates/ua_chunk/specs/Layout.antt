@@ -1,6 +1,6 @@
 -- What the fields of OPN, MSG and CLO frames say. OPC 10000-6, 6.7.2.3 (asymmetric and symmetric security header),
 -- 6.7.2.4 (sequence header) and 6.7.3 (the body of an abort).
-use Rattle.std.specs.Prelude.{◌≡◌, ℕ, List, ◌++◌, Option, Some, None, codes}
+use Rattle.std.specs.Prelude.{◌≡◌, ℕ, List, ◌++◌, Option, Some, None}
 use Rattle.std.specs.Int.{w32}
 use Rattle.ua_value.specs.Format.{◌>>=◌, Format}
 use Rattle.ua_value.specs.Number.{unsigned}
@@ -8,6 +8,7 @@ use Rattle.ua_value.specs.Text.{string, byte_string}
 use Rattle.ua_value.specs.Sequence.{pair}
 use Rattle.ua_value.specs.Whole.{only}
 use Rattle.ua_frame.specs.Layout.{Parts}
+pub use Rattle.ua_frame.specs.Policy.{policy_none}
 use Rattle.ua_frame.specs.declared.kind.Kind.{Kind}
 use Rattle.ua_frame.specs.declared.kind.Kind.TheVariants.{Open, Message, Close}
 
@@ -111,10 +112,6 @@ abbrev pub chunk_in : Parts → Option FlaggedChunk
 chunk_in frame = chunk_by_kind frame.kind frame.flag frame.fields
 
 -- ---- the same, written
-
--- the URI of the policy None
-abbrev pub policy_none : List ℕ
-policy_none = codes "http://opcfoundation.org/UA/SecurityPolicy#None"
 
 -- the fields of an OPN without certificate and thumbprint, by the policy None
 abbrev pub open_fields : ℕ → ℕ → ℕ → List ℕ → List ℕ

@@ -68,7 +68,7 @@ pub fn content_of<'a>(alloc: Global, frame: &Frame<'a>) -> Result<Content<'a>, C
 {
     match frame.kind() {
         Kind::Hello => Ok(Content::Hello(Hello::read(alloc, frame)?)),
-        Kind::Acknowledge => Ok(Content::Acknowledge(Ack::read(alloc, frame)?)),
+        Kind::Acknowledge => Ok(Content::Acknowledge(Ack::read(frame)?)),
         Kind::Error => Ok(Content::Error(ErrorFrame::read(alloc, frame)?)),
         Kind::ReverseHello => Err(ContentFault::Refused(BAD_TCP_MESSAGE_TYPE_INVALID)),
         Kind::Open => Ok(Content::Open(open_chunk(frame)?)),

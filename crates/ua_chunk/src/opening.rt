@@ -8,9 +8,6 @@ use ua_frame::status::BAD_DECODING_ERROR;
 use ua_frame::{Frame, Kind};
 use ua_value::{bytes_front, front_u32, string_front};
 
-/// The URI of the security policy None, by which our own OPN frames go. OPC 10000-7, SecurityPolicy - None.
-pub const POLICY_NONE: &str = "http://opcfoundation.org/UA/SecurityPolicy#None";
-
 /// What an OPN frame carries, lent from it. OPC 10000-6, 6.7.2.3 and 6.7.2.4.
 #[derive(Drop)]
 pub struct OpenChunk<'a> {

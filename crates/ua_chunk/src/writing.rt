@@ -8,13 +8,9 @@ ghost use Rattle.ua_chunk.specs.NumberLaws.{IsNumber};
 ghost use Rattle.ua_chunk.specs.Cut.{part_count, fill};
 ghost use Rattle.ua_chunk.specs.Written.{open_frame, chunk_frame, close_frame, abort_frame, message_frames};
 
-use crate::opening::POLICY_NONE;
 use crate::sequence::Sequence;
-use ua_frame::Kind;
+use ua_frame::{HEADER, Kind, POLICY_NONE};
 use ua_value::NoMemory;
-
-/// Bytes of a frame's header.
-const HEADER: u32 = 8;
 
 /// Bytes of a chunk's numbers: channel id, token id, sequence number and request id.
 const NUMBERS: u32 = 16;

@@ -1,6 +1,5 @@
 pub mod WorkedStories
 pub mod FaithfulLemmas
-pub mod TokenLemmas
 pub mod PremiseLemmas
 pub mod OnTheWayLemmas
 pub mod SpokenLemmas
@@ -9,7 +8,6 @@ pub mod SpokenEffectLemmas
 pub mod SpokenAnswerLemmas
 pub mod SpokenRequestLemmas
 pub mod SpokenTurnLemmas
-pub mod SpokenStreamLemmas
 pub mod SpokenSessionLemmas
 pub mod SettingsLemmas
 pub mod StoryLemmas

@@ -8,9 +8,7 @@ pub mod RunLemmas
 pub mod GainLemmas
 pub mod StopLemmas
 pub mod CommandLemmas
-pub mod PendingLemmas
 pub mod IdLemmas
-pub mod MatchedLemmas
 pub mod CountLemmas
 pub mod AcceptedLemmas
 pub mod FirstFaultLemmas

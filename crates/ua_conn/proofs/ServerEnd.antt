@@ -11,7 +11,6 @@ pub mod GrammarLemmas
 pub mod LegalLemmas
 pub mod OpeningLemmas
 pub mod WorkedRows
-pub mod TableLemmas
 pub mod TypeLemmas
 pub mod TakeLemmas
 pub mod ReplyLemmas

@@ -9,7 +9,6 @@ use Rattle.ua_conn.specs.server.Feeding.{Shown, FeedsAll}
 use Rattle.ua_conn.specs.client.Asker.{Asker}
 use Rattle.ua_conn.specs.client.Commands.{Act, Commands, asked}
 use Rattle.ua_conn.specs.client.Reading.{client_fault, matched}
-use Rattle.ua_conn.specs.client.Asking.{in_flight}
 use Rattle.ua_conn.specs.client.Held.{Log, commands_of, stream_of, latest_of}
 use Rattle.ua_conn.specs.client.Feeding.{ClientShown, Lived, AcceptsAll, RefusedBy, HandsAll, FailsAll}
 use Rattle.ua_conn.specs.Story.{Setup, World, client_stream, server_stream}
@@ -29,8 +28,8 @@ is_memory fault = false
 
 -- a command was accepted, or refused for another reason than want of memory
 abbrev pub Tells : ClientShown → ℕ → Act → ClientShown → Bool → Type 0
-Tells old now act new true = AcceptsAll in_flight old now act new
-Tells old now act new false = (new ≡ old) × ((fault : AskFault) × (is_memory fault ≡ false) × RefusedBy in_flight old act fault)
+Tells old now act new true = AcceptsAll old now act new
+Tells old now act new false = (new ≡ old) × ((fault : AskFault) × (is_memory fault ≡ false) × RefusedBy old act fault)
 
 -- a piece was answered, or came to a server that takes no more
 pub data Served (old new : Shown) (x : Piece) (down down' : List ℕ) (had has : List Request) (end end' : Option End) : Type 0 where
@@ -49,8 +48,8 @@ Meets fault None = fault ≡ Ended
 
 -- a piece brought answers, or a fault, or came to a client that takes no more
 pub data Heard (old new : ClientShown) (x : Piece) (had has : List Answer) (fault fault' : Option ClientFault) : Type 0 where
-  Answered : (given : List Answer) → old.failed ≡ false → HandsAll in_flight old x new given → has ≡ had ++ given → fault' ≡ fault → Heard old new x had has fault fault'
-  Refused : (f : ClientFault) → old.failed ≡ false → is_said f ≡ true → FailsAll in_flight old x new f → has ≡ had → fault' ≡ Some f → Heard old new x had has fault fault'
+  Answered : (given : List Answer) → old.failed ≡ false → HandsAll old x new given → has ≡ had ++ given → fault' ≡ fault → Heard old new x had has fault fault'
+  Refused : (f : ClientFault) → old.failed ≡ false → is_said f ≡ true → FailsAll old x new f → has ≡ had → fault' ≡ Some f → Heard old new x had has fault fault'
   Left : old.failed ≡ true → new ≡ old → has ≡ had → fault' ≡ fault → Heard old new x had has fault fault'
 
 -- ---- between two steps
@@ -100,7 +99,7 @@ pub data ServerAt (site : Site) (clock : ℕ) (up : List TimedByte) (server : Sh
 
 -- what happened to a client that has not failed
 pub record Living (a : Asker) (clock : ℕ) (cmds : Commands) (down settled : List TimedByte) (client : ClientShown) (log : Log) : Type 0 where
-  pub lived : Lived in_flight a log client
+  pub lived : Lived a log client
   pub alive : client.failed ≡ false
   pub commands : commands_of log ≡ cmds
   pub stream : stream_of log ≡ down

@@ -15,3 +15,4 @@ pub mod Opening
 pub mod Parts
 pub mod Settled
 pub mod Feeding
+pub mod Bound

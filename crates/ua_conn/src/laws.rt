@@ -4,7 +4,6 @@ ghost use Rattle.std.specs.Prelude.{◌≡◌, List};
 ghost use Rattle.ua_frame.specs.Streams.{TimedByte, Framed, cuts_of, rest_of};
 ghost use Rattle.ua_conn.specs.server.FirstFault.{StopsFirst};
 ghost use Rattle.ua_conn.specs.server.Held.{ByRecord};
-ghost use Rattle.ua_conn.specs.client.Asking.{in_flight};
 ghost use Rattle.ua_conn.specs.client.FirstFault.{ClientStopsFirst, ClientStaysStopped};
 ghost use Rattle.ua_conn.specs.client.Held.{ClientByRecord, RefusedByRecord};
 ghost use Rattle.ua_conn.specs.BothEnds.{Faithful, HandedAndAccepted, NothingRefused, NoneUnanswered};
@@ -54,25 +53,25 @@ pub fn client_first_fault()
 /// Once a client has met a fault, what comes later changes neither the fault, the answers nor what it sends, and each
 /// command is refused.
 pub fn client_stays_stopped()
-    ensures { ClientStaysStopped in_flight }
+    ensures { ClientStaysStopped }
 {}
 
 /// What one more piece, or one more command that is accepted, brings to a client that has not failed depends on the
 /// record of what it holds and the event alone: the bytes that it sends, the answers, the fault, and the record then.
 pub fn client_by_record()
-    ensures { ClientByRecord in_flight }
+    ensures { ClientByRecord }
 {}
 
 /// Whether a client refuses a command, and for which reason, depends on the record of what it holds and the command
 /// alone.
 pub fn refused_by_record()
-    ensures { RefusedByRecord in_flight }
+    ensures { RefusedByRecord }
 {}
 
 /// After every schedule, what was delivered to the server is a beginning of what the client sent, and what was
 /// delivered to the client a beginning of what the server answered.
 pub fn faithful()
-    ensures { Faithful in_flight }
+    ensures { Faithful }
 {}
 
 /// The law of both ends, its first part. For every setup and every schedule of requests that are values: what the server
@@ -81,17 +80,17 @@ pub fn faithful()
 /// whole, or the abort in its place where that answer passes the limits that the client's Hello names. Tokens may die
 /// on the way, and not all need be delivered. OPC 10000-4, 5.5; OPC 10000-6, 6.7 and 7.1.
 pub fn handed()
-    ensures { HandedAndAccepted in_flight }
+    ensures { HandedAndAccepted }
 {}
 
 /// Its second part. While each token lives that a delivered MSG or CLO names, counted from its issue at the end that
 /// receives it: the server has met no fault, and neither has the client. OPC 10000-4, 5.6.2; OPC 10000-6, 6.7.
 pub fn unrefused()
-    ensures { NothingRefused in_flight }
+    ensures { NothingRefused }
 {}
 
 /// Its third part. While those tokens live, once all that was sent is delivered each way: all that was asked is handed
 /// on, and each of it is answered.
 pub fn answered()
-    ensures { NoneUnanswered in_flight }
+    ensures { NoneUnanswered }
 {}

@@ -1,10 +1,11 @@
 //! The server's end of a connection.
 
-ghost use Rattle.std.specs.Prelude.{◌≡◌, ◌<◌, ◌≤◌, ◌^◌, ◌↔◌, [], drop, vec_len, true, false, None, IfOk, OnErr, IsErrOf};
+ghost use Rattle.std.specs.Prelude.{◌≡◌, ◌<◌, ◌≤◌, ◌^◌, ◌↔◌, [], true, false, None, IfOk, OnErr, IsErrOf};
 ghost use Rattle.ua_frame.specs.Streams.{moment_of as counted};
 ghost use Rattle.ua_conn.specs.server.Site.{Site};
 ghost use Rattle.ua_conn.specs.server.Replies.{ended};
 ghost use Rattle.ua_conn.specs.server.Held.{held};
+ghost use Rattle.ua_conn.specs.server.Bound.{held_bytes, most_held};
 ghost use Rattle.ua_conn.specs.server.Feeding.{FeedsAll, FeedsPartAll};
 
 mod agreed;
@@ -14,7 +15,6 @@ mod conversation;
 mod fault;
 mod hearing;
 
-use crate::bytes::remove_front;
 use crate::moment::moment_of;
 use crate::outcome::End;
 use crate::server::connection::Connection;
@@ -23,6 +23,7 @@ pub use conversation::answer_all;
 use std::alloc::{AllocError, Global};
 use std::marker::Model;
 use ua_disco::Settings;
+use ua_frame::FrameBuf;
 use ua_service::Request;
 use ua_value::NoMemory;
 
@@ -62,23 +63,26 @@ pub struct Fed {
 pub struct Server<'a> {
     alloc: Global,
     connection: Connection<'a>,
-    rest: Vec<u8>,
+    /// What came and is not used yet.
+    buffer: FrameBuf,
     moment: u64,
     failed: bool,
 }
 
 impl<'a> Model for Server<'a> {
-    ghost use Rattle.ua_conn.specs.server.Feeding.{Shown, IsTimely};
+    ghost use Rattle.ua_conn.specs.server.Feeding.{Shown};
 
     ghost Value = { Shown };
 
+    ghost use Rattle.ua_conn.specs.server.Bound.{IsServer};
+
     ghost view = { λ s. record {
       site = s.connection.site;
-      held = record { known = s.connection.known; next = s.connection.next; moment = s.moment; rest = s.rest.items };
+      held = record { known = s.connection.known; next = s.connection.next; moment = s.moment; rest = s.buffer.bytes };
       failed = s.failed;
     } };
 
-    ghost invariant = { λ s. IsTimely s.connection.moment s.moment s.failed };
+    ghost invariant = { IsServer };
 }
 
 impl<'a> Server<'a> {
@@ -94,11 +98,14 @@ impl<'a> Server<'a> {
         ensures { IfOk result (λ server. let site : Site = record { settings = settings.now; channel = channel_id } in
             server ≡ record { site = site; held = held site []; failed = false }) }
     {
+        let limits = settings.limits();
+        let buffer = FrameBuf::with_capacity(alloc, limits.receive as usize)?;
         let connection = Connection::new(alloc, settings, channel_id)?;
+        connection.keeps_limits();
         Ok(Server {
             alloc,
             connection,
-            rest: Vec::new(alloc),
+            buffer,
             moment: 0,
             failed: false,
         })
@@ -121,20 +128,29 @@ impl<'a> Server<'a> {
         ensures failed { OnErr result (self.new.failed ≡ true) }
         ensures ended { IsErrOf result FeedFault.Ended ↔ (self.old.failed ≡ true) }
         ensures unchanged { self.old.failed ≡ true → (self.new ≡ self.old) × (out.new.items ≡ out.old.items) }
+
+        // What is held of the input fits the room that was reserved once.
+        ensures bound { held_bytes self.new.held ≤ most_held self.new.site.settings.limits }
     {
         if self.failed {
             return Err(FeedFault::Ended);
         }
         self.failed = true;
         let now = self.moment.max(moment_of(now));
-        self.rest.extend_from_slice(piece)?;
         let mut requests = Vec::new(self.alloc);
-        let heard = hear(&mut self.connection, now, &self.rest, &mut requests, out)?;
-        let end = heard.end;
+        let heard = hear(
+            &mut self.connection,
+            now,
+            &mut self.buffer,
+            piece,
+            &mut requests,
+            out,
+        );
+        self.connection.keeps_limits();
+        let end = heard?;
         if end.is_some() {
             return Ok(Fed { requests, end });
         }
-        remove_front(&mut self.rest, heard.used);
         self.moment = now;
         self.failed = false;
         Ok(Fed { requests, end })
@@ -144,7 +160,7 @@ impl<'a> Server<'a> {
     pub fn end_of_input(&self) -> End
         ensures { result ≡ ended None self.now.held.rest }
     {
-        if self.rest.is_empty() {
+        if self.buffer.is_empty() {
             End::InputEnded
         } else {
             End::Truncated

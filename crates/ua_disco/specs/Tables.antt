@@ -6,6 +6,7 @@ use Rattle.toml.specs.Parse.{parse_document}
 use Rattle.ua_value.specs.declared.localized.LocalizedText.{LocalizedText}
 use Rattle.ua_service.specs.declared.endpoint.UserTokenPolicy.{UserTokenPolicy}
 use Rattle.ua_frame.specs.declared.limits.Limits.{Limits}
+pub use Rattle.ua_frame.specs.Policy.{policy_none}
 use Rattle.ua_disco.specs.declared.application.Application.{Application}
 use Rattle.ua_disco.specs.declared.endpoint.Endpoint.{Endpoint}
 use Rattle.ua_disco.specs.Configuration.{Configuration}
@@ -133,10 +134,6 @@ token_of prefix ms =
     next (token_kind prefix ms) (λ k.
     next (token_issuer prefix ms) (λ i.
     Ok (record { policy_id = k.0; token_type = pos k.1; issued_token_type = i.0; issuer_endpoint_url = i.1; security_policy_uri = i.2 }))))
-
--- SecurityPolicy None
-abbrev pub policy_none : List ℕ
-policy_none = codes "http://opcfoundation.org/UA/SecurityPolicy#None"
 
 -- UA TCP, UA Secure Conversation and UA Binary
 abbrev pub binary_profile : List ℕ

@@ -68,7 +68,7 @@ fn find_servers(
 {
     let found = servers(alloc, settings, request)?;
     Ok(FindServersResponse {
-        header: response_header(alloc, now, request.header.request_handle, 0),
+        header: response_header(now, request.header.request_handle, 0),
         servers: array_of(found),
     })
 }
@@ -83,7 +83,7 @@ fn get_endpoints(
 {
     let found = endpoints(alloc, settings, request)?;
     Ok(GetEndpointsResponse {
-        header: response_header(alloc, now, request.header.request_handle, 0),
+        header: response_header(now, request.header.request_handle, 0),
         endpoints: array_of(found),
     })
 }
@@ -118,7 +118,7 @@ pub fn answer(
         Request::Other(request) => {
             let handle = request.header().request_handle;
             Ok(Response::Fault(ServiceFault {
-                header: response_header(alloc, now, handle, BAD_SERVICE_UNSUPPORTED),
+                header: response_header(now, handle, BAD_SERVICE_UNSUPPORTED),
             }))
         }
     }

@@ -10,6 +10,7 @@ use crate::read_endpoint::read_endpoints_key;
 use crate::read_limits::read_limits_key;
 use crate::reading::{check_keys, read_integer};
 use crate::settings::Settings;
+use crate::valid::{application_is_value, endpoints_are_values};
 use std::alloc::Global;
 use toml::Table;
 
@@ -35,6 +36,8 @@ fn read_body(alloc: Global, table: &Table) -> Result<Settings, SettingsFault>
     let application = read_application_key(alloc, table)?;
     let endpoints = read_endpoints_key(alloc, table)?;
     let limits = read_limits_key(alloc, table)?;
+    application_is_value(&application);
+    endpoints_are_values(&endpoints);
     Ok(Settings {
         limits,
         application,

@@ -3,6 +3,7 @@
 ghost use Rattle.std.specs.Prelude.{◌≡◌, option_copied};
 ghost use Rattle.ua_disco.specs.Bounds.{IsLimits, IsConfiguration};
 ghost use Rattle.ua_disco.specs.Settings.{first_url_of};
+ghost use Rattle.ua_disco.specs.Values.{AreSettings};
 
 use crate::application::Application;
 use crate::endpoint::Endpoint;
@@ -20,20 +21,22 @@ pub struct Settings {
 
 impl Model for Settings {
     ghost use Rattle.ua_disco.specs.Configuration.{Configuration};
-    ghost use Rattle.ua_disco.specs.Bounds.{IsConfiguration};
+    ghost use Rattle.ua_disco.specs.Values.{AreSettings};
 
     ghost Value = { Configuration };
 
     ghost view = { λ a. record { limits = a.limits; application = a.application; endpoints = a.endpoints.items } };
 
-    ghost invariant = { λ a. IsConfiguration (record { limits = a.limits; application = a.application; endpoints = a.endpoints.items }) };
+    ghost invariant = { λ a. AreSettings (record { limits = a.limits; application = a.application; endpoints = a.endpoints.items }) };
 }
 
 impl Settings {
-    /// The limits of the server.
+    /// The limits of the server. As of all settings, contracts know of these that they are within their bounds, that
+    /// their texts are UTF-8 and that their numbers fit.
     pub fn limits(&self) -> Limits
         ensures limits { result ≡ self.now.limits }
         ensures within { IsLimits result }
+        ensures settings { AreSettings self.now }
     {
         self.limits
     }

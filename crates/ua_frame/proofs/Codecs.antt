@@ -6,7 +6,7 @@ use Rattle.ua_value.specs.Format.{◌>>=◌, IsBytes, Format, IsLawful, Gives, F
 use Rattle.ua_value.specs.Lists.{same_some}
 use Rattle.ua_value.specs.Sequence.{by}
 use Rattle.ua_value.specs.Whole.{ended, only, only_takes, only_again, ReadsAll}
-use Rattle.ua_frame.specs.Hello.{HelloFields, show_hello, make_hello, hello_fields, hello_layout, hello_of, AcknowledgeFields, show_acknowledge, make_acknowledge, acknowledge_fields, acknowledge_layout, acknowledge_of, ErrorFields, show_error, make_error, error_fields, error_layout, error_of}
+use Rattle.ua_frame.specs.Hello.{HelloFields, show_hello, make_hello, hello_fields, hello_layout, hello_of, ErrorFields, show_error, make_error, error_fields, error_layout, error_of}
 
 some_by : {V W : Type 0} (back : W → V) (r : Option (W × List ℕ)) (w : W) → (r >>= ended) ≡ Some w → ((r >>= λ x. Some (back x.0, x.1)) >>= ended) ≡ Some (back w)
 some_by {V} {W} back None w e = absurd cc
@@ -40,7 +40,7 @@ also Is K k bytes (Err NoMemory) h = tt
 pub reads_also : {V : Type 0} (Is : V → List ℕ → Type 0) (K : Type 0) → K → (a b : List ℕ) → a ≡ b → (r : Result V ReadFault) → ReadsAll Is a r → ReadsAll (λ v l. K × Is v l) b r
 reads_also Is K k a b e r h = subst (λ (l : List ℕ). ReadsAll (λ v l. K × Is v l) l r) e (also Is K k a r h)
 
--- ---- the three frames
+-- ---- the frames with a text
 
 pub hello_some : (bytes : List ℕ) (p : HelloFields) → only hello_fields.grammar bytes ≡ Some p → hello_of bytes ≡ Some (make_hello p)
 unfolding hello_layout
@@ -49,14 +49,6 @@ hello_some bytes p e = only_by show_hello make_hello hello_fields bytes p e
 pub hello_fails : (bytes : List ℕ) (fault : ReadFault) → Fails fault (only hello_fields.grammar bytes) → Fails fault (hello_of bytes)
 unfolding hello_layout
 hello_fails bytes fault e = fails_by show_hello make_hello hello_fields bytes fault e
-
-pub acknowledge_some : (bytes : List ℕ) (p : AcknowledgeFields) → only acknowledge_fields.grammar bytes ≡ Some p → acknowledge_of bytes ≡ Some (make_acknowledge p)
-unfolding acknowledge_layout
-acknowledge_some bytes p e = only_by show_acknowledge make_acknowledge acknowledge_fields bytes p e
-
-pub acknowledge_fails : (bytes : List ℕ) (fault : ReadFault) → Fails fault (only acknowledge_fields.grammar bytes) → Fails fault (acknowledge_of bytes)
-unfolding acknowledge_layout
-acknowledge_fails bytes fault e = fails_by show_acknowledge make_acknowledge acknowledge_fields bytes fault e
 
 pub error_some : (bytes : List ℕ) (p : ErrorFields) → only error_fields.grammar bytes ≡ Some p → error_of bytes ≡ Some (make_error p)
 unfolding error_layout

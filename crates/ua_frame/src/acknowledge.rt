@@ -1,14 +1,13 @@
 //! The server's answer to a Hello.
 
-ghost use Rattle.std.specs.Prelude.{◌≡◌, ◌≤◌, ◌++◌, length, is_ok, if◌then◌else◌};
-ghost use Rattle.ua_value.specs.Format.{Gives, input_limit};
+ghost use Rattle.std.specs.Prelude.{◌≡◌, ◌++◌, is_ok, option_map, IfErr, if◌then◌else◌};
+ghost use Rattle.ua_value.specs.Format.{Gives};
 ghost use Rattle.ua_value.specs.Whole.{ReadsAll};
 
 use crate::frame::Frame;
 use crate::kind::Kind;
 use crate::writing::write_frame;
-use std::alloc::Global;
-use ua_value::{NoMemory, ReadFault, read_whole};
+use ua_value::{NoMemory, ReadFault, front_u32};
 
 /// What the server agrees to, the `ACK` frame. OPC 10000-6, 7.1.2.4.
 #[derive(Clone, Copy, Debug, PartialEq, Eq)]
@@ -25,46 +24,71 @@ pub struct Ack {
     pub max_chunks: u32,
 }
 
-/// The fields in their order.
-type Fields = (u32, (u32, (u32, (u32, u32))));
-
 /// Bytes of the fields.
 const LEN: u32 = 20;
 
 impl Ack {
     ghost use Rattle.ua_frame.specs.Hello.{acknowledge_layout, acknowledge_of, acknowledge_frame};
 
-    /// The Acknowledge that these fields spell.
-    fn of_fields(alloc: Global, fields: &[u8]) -> Result<Ack, ReadFault>
-        requires { length fields.now ≤ input_limit }
-        ensures spelled { ReadsAll acknowledge_layout.grammar.spells fields.now result }
-        ensures exact { Gives (λ a. a) result (acknowledge_of fields.now) }
+    /// The Acknowledge that the fields begin with, and what follows it.
+    #[tactic(auto, unfolding(crate::specs::Hello::acknowledge_layout))]
+    fn front(fields: &[u8]) -> Option<(Ack, &[u8])>
+        ensures { option_map (λ p. (p.0, p.1.now)) result ≡ acknowledge_layout.grammar.front fields.now }
     {
-        let (version, (receive, (send, (max_message, max_chunks)))) = read_whole::<Fields>(
-            alloc, fields,
-        )?;
-        Ok(Ack {
+        let (version, rest) = front_u32(fields)?;
+        let (receive, rest) = front_u32(rest)?;
+        let (send, rest) = front_u32(rest)?;
+        let (max_message, rest) = front_u32(rest)?;
+        let (max_chunks, rest) = front_u32(rest)?;
+        let ack = Ack {
             version,
             receive,
             send,
             max_message,
             max_chunks,
-        })
+        };
+        Some((ack, rest))
+    }
+
+    /// The Acknowledge that the fields spell, all of them, if they spell one.
+    fn whole(fields: &[u8]) -> Option<Ack>
+        ensures { result ≡ acknowledge_of fields.now }
+    {
+        let (ack, rest) = Ack::front(fields)?;
+        match rest {
+            [] => Some(ack),
+            _ => None,
+        }
+    }
+
+    /// The same, refused where they spell none.
+    fn of_fields(fields: &[u8]) -> Result<Ack, ReadFault>
+        ensures spelled { ReadsAll acknowledge_layout.grammar.spells fields.now result }
+        ensures exact { Gives (λ a. a) result (acknowledge_of fields.now) }
+        ensures refused { IfErr result (λ fault. fault ≡ ReadFault.Refused) }
+    {
+        match Ack::whole(fields) {
+            Some(ack) => Ok(ack),
+            None => Err(ReadFault::Refused),
+        }
     }
 
     /// The Acknowledge that a frame is.
     ///
     /// `Refused` (status `BAD_DECODING_ERROR`) says that the frame is of another type, or that its fields, all of
-    /// them, spell no Acknowledge. OPC 10000-6, 7.1.2.4.
-    pub fn read(alloc: Global, frame: &Frame) -> Result<Ack, ReadFault>
+    /// them, spell no Acknowledge. It takes no memory, so there is no other fault. OPC 10000-6, 7.1.2.4.
+    pub fn read(frame: &Frame) -> Result<Ack, ReadFault>
         // What is read is spelled so, and what is spelled so is not refused.
         ensures spelled { ReadsAll (λ a fields. (frame.now.kind ≡ Kind.Acknowledge) × acknowledge_layout.grammar.spells a fields) frame.now.fields result }
 
         // Which one it is.
         ensures exact { frame.now.kind ≡ Kind.Acknowledge → Gives (λ a. a) result (acknowledge_of frame.now.fields) }
+
+        // Nothing else goes wrong.
+        ensures refused { IfErr result (λ fault. fault ≡ ReadFault.Refused) }
     {
         match frame.kind() {
-            Kind::Acknowledge => Ack::of_fields(alloc, frame.fields()),
+            Kind::Acknowledge => Ack::of_fields(frame.fields()),
             _ => Err(ReadFault::Refused),
         }
     }

@@ -1,6 +1,6 @@
 //! Input that came and is not used yet, which lends its frames.
 
-ghost use Rattle.std.specs.Prelude.{◌≡◌, ℕ, ◌+◌, ◌-◌, ◌<◌, ◌≤◌, [], ◌++◌, length, take, drop, min, Ok, None, vec_len, vec_capacity, IfOk, IfErr, OnOk, IfSome, OnSome, IfNone};
+ghost use Rattle.std.specs.Prelude.{◌≡◌, ◌==◌, ℕ, ◌+◌, ◌-◌, ◌<◌, ◌≤◌, [], ◌++◌, length, take, drop, min, Ok, None, vec_len, vec_capacity, IfOk, IfErr, OnOk, IfSome, OnSome, IfNone};
 ghost use Rattle.ua_frame.specs.Layout.{size_of, IsFrame, IsFrameOf, frame_bytes};
 ghost use Rattle.ua_frame.specs.HeaderRows.{header_fault};
 ghost use Rattle.ua_frame.specs.Buffer.{empty_buffer};
@@ -48,6 +48,13 @@ impl FrameBuf {
             start: 0,
             capacity,
         })
+    }
+
+    /// Whether it holds no byte. It takes no memory.
+    pub fn is_empty(&self) -> bool
+        ensures { result ≡ (length self.now.bytes == 0) }
+    {
+        self.bytes[self.start..].is_empty()
     }
 
     /// Takes as many bytes from the front of the piece as there is room for, and says how many. Without room that

@@ -9,8 +9,8 @@ use crate::kind::Kind;
 use crate::status::{BAD_DECODING_ERROR, BAD_TCP_MESSAGE_TOO_LARGE, BAD_TCP_MESSAGE_TYPE_INVALID};
 use std::marker::Model;
 
-/// Bytes of a frame's header.
-const HEADER: u32 = 8;
+/// Bytes of a frame's header: three of its type, one of its flag, four of its size (OPC 10000-6, 7.1.2.2).
+pub const HEADER: u32 = 8;
 
 /// A whole frame of a known type, whose fields are lent. OPC 10000-6, 7.1.2.2 and 6.7.2.2.
 #[derive(Drop)]
@@ -46,6 +46,13 @@ impl<'a> Frame<'a> {
         ensures fits { flag_fits self.now.kind result ≡ true }
     {
         self.flag
+    }
+
+    /// The bytes of the whole frame, its header included.
+    pub fn len(&self) -> u32
+        ensures { result ≡ 8 + length self.now.fields }
+    {
+        HEADER + self.fields.len() as u32
     }
 
     /// The bytes that follow the frame's header of 8 bytes.

@@ -10,14 +10,16 @@ mod kind;
 pub mod laws;
 mod limits;
 mod negotiation;
+mod policy;
 pub mod status;
 mod writing;
 
 pub use acknowledge::Ack;
 pub use buffer::FrameBuf;
 pub use error_frame::ErrorFrame;
-pub use frame::{Frame, frame_at};
+pub use frame::{Frame, HEADER, frame_at};
 pub use hello::Hello;
 pub use kind::Kind;
 pub use limits::Limits;
-pub use negotiation::{acceptable, negotiate};
+pub use negotiation::{VERSION, acceptable, negotiate};
+pub use policy::POLICY_NONE;

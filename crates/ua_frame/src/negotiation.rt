@@ -10,8 +10,8 @@ use crate::limits::Limits;
 use crate::status::{BAD_TCP_ENDPOINT_URL_INVALID, BAD_TCP_NOT_ENOUGH_RESOURCES};
 use ua_value::UaString;
 
-/// The version of the connection protocol that is spoken.
-const VERSION: u32 = 0;
+/// The version of the connection protocol that is spoken (OPC 10000-6, 7.1.2.3).
+pub const VERSION: u32 = 0;
 
 /// Bytes of the longest url.
 const LONGEST_URL: usize = 4095;

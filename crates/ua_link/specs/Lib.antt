@@ -4,3 +4,4 @@ pub mod Clock
 pub mod Reads
 pub mod Turns
 pub mod Reports
+pub mod ClientTurns

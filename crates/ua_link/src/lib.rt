@@ -1,6 +1,7 @@
 //! Links that can fail, and the ends of connections over them.
 #![tactic(auto)]
 
+mod client_turn;
 mod clock;
 mod link;
 mod memory_link;
@@ -9,6 +10,7 @@ mod serving;
 mod tcp_link;
 mod turn;
 
+pub use client_turn::{ClientTurn, pump_client, send_output};
 pub use clock::{Clock, MachineClock};
 pub use link::{Link, LinkFault};
 pub use memory_link::MemoryLink;

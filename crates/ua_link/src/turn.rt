@@ -11,7 +11,7 @@ use ua_conn::{End, Fed, Server};
 use ua_service::Request;
 
 /// The most bytes of one read.
-const MOST_READ: usize = 4096;
+pub(crate) const MOST_READ: usize = 4096;
 
 /// What one turn did.
 #[derive(Drop)]

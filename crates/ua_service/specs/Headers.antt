@@ -4,6 +4,7 @@ use Rattle.std.specs.Int.{w32}
 use Rattle.ua_service.specs.declared.headers.RequestHeader.{RequestHeader}
 use Rattle.ua_service.specs.declared.headers.ResponseHeader.{ResponseHeader}
 use Rattle.ua_service.specs.declared.headers.ServiceFault.{ServiceFault}
+use Rattle.ua_value.specs.declared.date.DateTime.{DateTime}
 use Rattle.ua_value.specs.Format.{Format, IsLawful}
 use Rattle.ua_value.specs.Number.{unsigned}
 use Rattle.ua_value.specs.NumberLaws.{lawful_unsigned, wide_32}
@@ -52,6 +53,18 @@ no_object = record { type_id = two_byte 0; body = extensions.None }
 
 abbrev pub no_diagnostics : Diagnostic
 no_diagnostics = plain (record { symbolic_id = None; namespace_uri = None; locale = None; localized_text = None; additional_info = None; inner_status = None })
+
+-- null authentication token, the moment, the handle, and nothing else
+abbrev pub request_header_at : ℤ → ℕ → RequestHeader
+request_header_at now handle = record {
+  authentication_token = two_byte 0;
+  timestamp = record { 0 = now };
+  request_handle = handle;
+  return_diagnostics = 0;
+  audit_entry_id = None;
+  timeout_hint = 0;
+  additional_header = no_object;
+}
 
 -- the moment, the handle of the request, the result, and nothing else
 abbrev pub response_header_at : ℤ → ℕ → ℕ → ResponseHeader

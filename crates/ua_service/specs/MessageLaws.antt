@@ -1,7 +1,7 @@
 -- The laws of messages and their bodies.
 use Rattle.std.proofs.Common.{◌≡◌, ◌≤◌, ◌<◌, ◌^◌, ℕ, List, ◌++◌, length, Bool, true, false, Some, Ok, Err, refl, sym, ap, subst, ◌∙◌, lit<}
 use Rattle.std.specs.Prelude.{◌==◌, ◌&&◌, ◌≢◌}
-use Rattle.std.proofs.lemmas.Bool.{eqb-true, eq-eqb}
+use Rattle.std.proofs.lemmas.Bool.{and_parts, eqb-true, eq-eqb}
 use Rattle.ua_value.specs.declared.node.NodeId.{NodeId}
 use Rattle.ua_value.specs.declared.node.Identifier.{Identifier}
 use Rattle.ua_value.specs.declared.node.Identifier.TheVariants as identifiers
@@ -39,10 +39,6 @@ refused m law bytes NoMemory h = tt
 
 -- ---- ids
 
-both_true : (a b : Bool) → (a && b) ≡ true → (a ≡ true) × (b ≡ true)
-both_true true b e = (refl, e)
-both_true false b e = absurd cc
-
 id_is : (n namespace : ℕ) (i : Identifier) → (namespace == 0) ≡ true → is_number n i ≡ true → (record { namespace = namespace; identifier = i }) ≡ id_of n
 id_is n namespace (identifiers.Numeric k) e h = let same : k ≡ n = eqb-true _ _ h in let none : namespace ≡ 0 = eqb-true _ _ e in cc
 id_is n namespace (identifiers.Text t) e h = absurd cc
@@ -50,7 +46,7 @@ id_is n namespace (identifiers.Guid g) e h = absurd cc
 id_is n namespace (identifiers.Opaque b) e h = absurd cc
 
 pub known : (n : ℕ) (id : NodeId) → is_id n id ≡ true → id ≡ id_of n
-known n id e = let b = both_true (id.namespace == 0) (is_number n id.identifier) e in id_is n id.namespace id.identifier b.0 b.1
+known n id e = let b = and_parts (id.namespace == 0) (is_number n id.identifier) e in id_is n id.namespace id.identifier b.0 b.1
 
 pub own : (n : ℕ) → is_id n (id_of n) ≡ true
 own n = eq-eqb n n refl

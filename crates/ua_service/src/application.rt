@@ -43,6 +43,8 @@ impl Wire for ApplicationDescription {
 
     ghost most = { 1152921517491748891 };
 
+    ghost Grows = { Unit {0} };
+
     fn len(&self) -> u64 {
         self.application_uri.len()
             + self.product_uri.len()

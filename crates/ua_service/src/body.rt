@@ -24,10 +24,11 @@ pub trait Body: Sized + Drop {
         ensures ok { OnOk result (S.contents out.new ≡ S.contents out.old ++ message.canon self.now) }
         ensures err { OnErr result (AppendsPart (S.contents out.old) (S.contents out.new) (message.canon self.now)) };
 
-    /// Appends the canonical body, or leaves `out` unchanged.
+    /// Appends the canonical body, or leaves `out` unchanged. The room for all of it is asked for once, before the first byte.
     fn write_body(&self, out: &mut Vec<u8>) -> Result<(), NoMemory>
         ensures { out.new.items ≡ (if is_ok result then out.old.items ++ message.canon self.now else out.old.items) }
     {
+        out.reserve(self.body_len() as usize)?;
         let start = out.len();
         match self.emit_body(out) {
             Ok(()) => Ok(()),
@@ -63,6 +64,24 @@ pub trait Body: Sized + Drop {
     ghost laws: { IsLawfulMessage message };
 }
 
+/// The number of bytes of the message's canonical body. It takes no memory.
+pub fn body_len<M: Body>(message: &M) -> u64
+    ensures { result ≡ length (M.message.canon message.now) }
+{
+    message.body_len()
+}
+
+/// Appends the message's canonical body to `out`.
+///
+/// # Errors
+///
+/// `NoMemory` where a growth was refused; `out` is then unchanged.
+pub fn write_body<M: Body>(message: &M, out: &mut Vec<u8>) -> Result<(), NoMemory>
+    ensures { out.new.items ≡ (if is_ok result then out.old.items ++ M.message.canon message.now else out.old.items) }
+{
+    message.write_body(out)
+}
+
 /// The canonical body of a message, which is then dropped.
 ///
 /// # Errors
@@ -91,10 +110,7 @@ pub(crate) fn is(id: &NodeId, number: u32) -> bool
 pub(crate) fn id(number: u32) -> NodeId
     ensures { result ≡ id_of number }
 {
-    NodeId {
-        namespace: 0,
-        identifier: Identifier::Numeric(number),
-    }
+    NodeId::numeric(0, number)
 }
 
 /// The fields that follow the id of this number.

@@ -4,15 +4,10 @@ ghost use Rattle.ua_service.specs.Channel.{open_request, lawful_open_request, op
 ghost use Rattle.ua_service.specs.ChannelMessages.{open_message, lawful_open, open_response_message, lawful_open_response_message, close_message, lawful_close};
 
 use crate::body::{Body, id, read_fields_of};
+use crate::encoding::{CLOSE_REQUEST, OPEN_REQUEST, OPEN_RESPONSE};
 use crate::headers::{RequestHeader, ResponseHeader};
 use std::alloc::Global;
 use ua_value::{DateTime, Fields, NoMemory, Parts, ReadFault, Sink, UaBytes, Wire, copy_two};
-
-const OPEN_REQUEST: u32 = 446;
-
-const OPEN_RESPONSE: u32 = 449;
-
-const CLOSE_REQUEST: u32 = 452;
 
 /// A request that a secure channel is opened or its token renewed (OPC 10000-4 5.6.2).
 #[derive(Drop)]
@@ -37,6 +32,8 @@ impl Wire for OpenRequest {
     ghost format = { open_request };
 
     ghost most = { 10737418298 };
+
+    ghost Grows = { Unit {0} };
 
     fn len(&self) -> u64 {
         self.header.len()
@@ -136,6 +133,8 @@ impl Wire for OpenResponse {
 
     ghost most = { 1152921725797665177 };
 
+    ghost Grows = { Unit {0} };
+
     fn len(&self) -> u64 {
         self.header.len()
             + self.server_protocol_version.len()
@@ -225,6 +224,8 @@ impl Wire for CloseRequest {
     ghost format = { close_request };
 
     ghost most = { 8589934631 };
+
+    ghost Grows = { Unit {0} };
 
     fn len(&self) -> u64 {
         self.header.len()

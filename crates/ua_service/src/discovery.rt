@@ -31,6 +31,8 @@ impl Wire for FindServersRequest {
 
     ghost most = { 2305843019951112242 };
 
+    ghost Grows = { Unit {0} };
+
     fn len(&self) -> u64 {
         self.header.len() + self.endpoint_url.len() + self.locale_ids.len() + self.server_uris.len()
     }
@@ -88,6 +90,8 @@ impl Wire for FindServersResponse {
 
     ghost most = { 2305843228257028482 };
 
+    ghost Grows = { Unit {0} };
+
     fn len(&self) -> u64 {
         self.header.len() + self.servers.len()
     }
@@ -133,6 +137,8 @@ impl Wire for GetEndpointsRequest {
     ghost format = { get_endpoints_request };
 
     ghost most = { 2305843019951112242 };
+
+    ghost Grows = { Unit {0} };
 
     fn len(&self) -> u64 {
         self.header.len()
@@ -193,6 +199,8 @@ impl Wire for GetEndpointsResponse {
     ghost format = { get_endpoints_response };
 
     ghost most = { 2305843228257028482 };
+
+    ghost Grows = { Unit {0} };
 
     fn len(&self) -> u64 {
         self.header.len() + self.endpoints.len()

@@ -31,6 +31,8 @@ impl Wire for UserTokenPolicy {
 
     ghost most = { 8589934608 };
 
+    ghost Grows = { Unit {0} };
+
     fn len(&self) -> u64 {
         self.policy_id.len()
             + self.token_type.len()
@@ -135,6 +137,8 @@ impl Wire for EndpointDescription {
     ghost format = { endpoint_description };
 
     ghost most = { 2305843030688530480 };
+
+    ghost Grows = { Unit {0} };
 
     fn len(&self) -> u64 {
         self.endpoint_url.len()

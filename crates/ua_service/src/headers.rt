@@ -1,14 +1,14 @@
 //! What stands before the fields of every request and of every response.
 
 ghost use Rattle.std.specs.Prelude.{◌≡◌};
-ghost use Rattle.ua_service.specs.Headers.{request_header, lawful_request_header, response_header, lawful_response_header, response_header_at, no_diagnostics, no_object, service_fault, lawful_service_fault};
+ghost use Rattle.ua_service.specs.Headers.{request_header, request_header_at, lawful_request_header, response_header, lawful_response_header, response_header_at, service_fault, lawful_service_fault};
 
 use std::alloc::Global;
 use ua_value::{
-    Array, DateTime, Fields, Identifier, NoMemory, NodeId, Parts, ReadFault, Sink, StatusCode,
-    UaString, Wire, copy_three,
+    Array, DateTime, Fields, NoMemory, NodeId, Parts, ReadFault, Sink, StatusCode, UaString, Wire,
+    copy_three,
 };
-use ua_variant::{DiagnosticInfo, ExtensionBody, ExtensionObject};
+use ua_variant::{DiagnosticInfo, ExtensionObject};
 
 /// What stands before the fields of every request (OPC 10000-4 7.33).
 #[derive(Drop)]
@@ -39,6 +39,8 @@ impl Wire for RequestHeader {
     ghost format = { request_header };
 
     ghost most = { 8589934631 };
+
+    ghost Grows = { Unit {0} };
 
     fn len(&self) -> u64 {
         self.authentication_token.len()
@@ -159,6 +161,8 @@ impl Wire for ResponseHeader {
 
     ghost most = { 1152921723650181502 };
 
+    ghost Grows = { Unit {0} };
+
     fn len(&self) -> u64 {
         self.timestamp.len()
             + self.request_handle.len()
@@ -235,40 +239,33 @@ impl Wire for ResponseHeader {
     ghost laws = { lawful_response_header };
 }
 
-fn no_diagnostics(alloc: Global) -> DiagnosticInfo
-    ensures { result ≡ no_diagnostics }
+/// The header of a request (OPC 10000-4 7.33): the moment, the client's number for the request, and nothing else. It takes no memory.
+pub fn request_header(now: DateTime, handle: u32) -> RequestHeader
+    ensures { result ≡ request_header_at now.0 handle }
 {
-    let made = DiagnosticInfo::new(alloc, None, None, None, None, UaString::null(), None, None);
-    match made {
-        Ok(diagnostics) => diagnostics,
-        Err(_) => unreachable!(),
-    }
-}
-
-fn no_object() -> ExtensionObject
-    ensures { result ≡ no_object }
-{
-    ExtensionObject {
-        type_id: NodeId {
-            namespace: 0,
-            identifier: Identifier::Numeric(0),
-        },
-        body: ExtensionBody::None,
+    RequestHeader {
+        authentication_token: NodeId::null(),
+        timestamp: now,
+        request_handle: handle,
+        return_diagnostics: 0,
+        audit_entry_id: UaString::null(),
+        timeout_hint: 0,
+        additional_header: ExtensionObject::null(),
     }
 }
 
 /// The header of a response (OPC 10000-4 7.34): the moment in ticks of 100 ns since 1601-01-01
 /// UTC, the handle of the request, the result, and nothing else. It takes no memory.
-pub fn response_header(alloc: Global, now: i64, handle: u32, status: u32) -> ResponseHeader
+pub fn response_header(now: i64, handle: u32, status: u32) -> ResponseHeader
     ensures { result ≡ response_header_at now handle status }
 {
     ResponseHeader {
         timestamp: DateTime(now),
         request_handle: handle,
         service_result: StatusCode(status),
-        service_diagnostics: no_diagnostics(alloc),
+        service_diagnostics: DiagnosticInfo::empty(),
         string_table: Array::null(),
-        additional_header: no_object(),
+        additional_header: ExtensionObject::null(),
     }
 }
 
@@ -284,6 +281,8 @@ impl Wire for ServiceFault {
     ghost format = { service_fault };
 
     ghost most = { 1152921723650181502 };
+
+    ghost Grows = { Unit {0} };
 
     fn len(&self) -> u64 {
         self.header.len()

@@ -5,22 +5,25 @@ mod application;
 mod body;
 mod channel;
 mod discovery;
+pub mod encoding;
 mod endpoint;
 mod headers;
 pub mod laws;
+mod named;
 mod other;
 mod read;
 mod request;
 mod response;
 
 pub use application::ApplicationDescription;
-pub use body::{Body, body_of};
+pub use body::{Body, body_len, body_of, write_body};
 pub use channel::{CloseRequest, OpenRequest, OpenResponse};
 pub use discovery::{
     FindServersRequest, FindServersResponse, GetEndpointsRequest, GetEndpointsResponse,
 };
 pub use endpoint::{EndpointDescription, UserTokenPolicy};
-pub use headers::{RequestHeader, ResponseHeader, ServiceFault, response_header};
+pub use headers::{RequestHeader, ResponseHeader, ServiceFault, request_header, response_header};
+pub use named::{ApplicationType, RequestType, SecurityMode, TokenType};
 pub use other::OtherRequest;
 pub use read::{read_close, read_open, read_open_response, read_request, read_response};
 pub use request::Request;

@@ -7,6 +7,7 @@ ghost use Rattle.ua_service.specs.RequestLaws.{lawful_request};
 
 use crate::body::{Body, id, is};
 use crate::discovery::{FindServersRequest, GetEndpointsRequest};
+use crate::encoding::{FIND_SERVERS_REQUEST, GET_ENDPOINTS_REQUEST};
 use crate::headers::RequestHeader;
 use crate::other::OtherRequest;
 use std::alloc::Global;
@@ -23,10 +24,6 @@ pub enum Request {
     Other(OtherRequest),
 }
 
-const FIND_SERVERS: u32 = 422;
-
-const GET_ENDPOINTS: u32 = 428;
-
 impl Request {
     /// The request of another service under this id. `None` exactly for the ids of the requests
     /// that have a case of their own: the numbers 422 and 428 in namespace 0. Takes no memory.
@@ -35,7 +32,7 @@ impl Request {
         ensures made { IfSome result (λ m. m ≡ Request.Other (record { type_id = type_id; header = header; rest = rest.items })) }
         ensures none { (result ≡ None) ↔ ((type_id ≡ id_of 422) ⊎ (type_id ≡ id_of 428)) }
     {
-        if is(&type_id, FIND_SERVERS) || is(&type_id, GET_ENDPOINTS) {
+        if is(&type_id, FIND_SERVERS_REQUEST) || is(&type_id, GET_ENDPOINTS_REQUEST) {
             return None;
         }
         Some(Request::Other(OtherRequest::new(type_id, header, rest)))
@@ -58,16 +55,16 @@ impl Body for Request {
 
     fn body_len(&self) -> u64 {
         match self {
-            Request::FindServers(fields) => id(FIND_SERVERS).len() + fields.len(),
-            Request::GetEndpoints(fields) => id(GET_ENDPOINTS).len() + fields.len(),
+            Request::FindServers(fields) => id(FIND_SERVERS_REQUEST).len() + fields.len(),
+            Request::GetEndpoints(fields) => id(GET_ENDPOINTS_REQUEST).len() + fields.len(),
             Request::Other(other) => other.body_len(),
         }
     }
 
     fn emit_body<S: Sink>(&self, out: &mut S) -> Result<(), NoMemory> {
         match self {
-            Request::FindServers(fields) => (&id(FIND_SERVERS), fields).emit_parts(out),
-            Request::GetEndpoints(fields) => (&id(GET_ENDPOINTS), fields).emit_parts(out),
+            Request::FindServers(fields) => (&id(FIND_SERVERS_REQUEST), fields).emit_parts(out),
+            Request::GetEndpoints(fields) => (&id(GET_ENDPOINTS_REQUEST), fields).emit_parts(out),
             Request::Other(other) => other.emit_body(out),
         }
     }
@@ -75,10 +72,10 @@ impl Body for Request {
     #[tactic(auto, using(crate::specs::MessageLaws::unlike), unfolding(crate::specs::Requests::request_of))]
     fn parse_body(alloc: Global, input: &[u8]) -> Result<Request, ReadFault> {
         let (type_id, rest) = NodeId::read_front(alloc, input)?;
-        if is(&type_id, FIND_SERVERS) {
+        if is(&type_id, FIND_SERVERS_REQUEST) {
             return Ok(Request::FindServers(read_whole(alloc, rest)?));
         }
-        if is(&type_id, GET_ENDPOINTS) {
+        if is(&type_id, GET_ENDPOINTS_REQUEST) {
             return Ok(Request::GetEndpoints(read_whole(alloc, rest)?));
         }
         let (header, rest) = RequestHeader::read_front(alloc, rest)?;

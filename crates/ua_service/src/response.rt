@@ -5,6 +5,7 @@ ghost use Rattle.ua_service.specs.ResponseLaws.{lawful_response};
 
 use crate::body::{Body, id, is};
 use crate::discovery::{FindServersResponse, GetEndpointsResponse};
+use crate::encoding::{FIND_SERVERS_RESPONSE, GET_ENDPOINTS_RESPONSE, SERVICE_FAULT};
 use crate::headers::ServiceFault;
 use std::alloc::Global;
 use ua_value::{NoMemory, NodeId, Parts, ReadFault, Sink, Wire, read_whole};
@@ -20,41 +21,35 @@ pub enum Response {
     Fault(ServiceFault),
 }
 
-const FIND_SERVERS: u32 = 425;
-
-const GET_ENDPOINTS: u32 = 431;
-
-const FAULT: u32 = 397;
-
 impl Body for Response {
     ghost message = { response_message };
 
     fn body_len(&self) -> u64 {
         match self {
-            Response::FindServers(fields) => id(FIND_SERVERS).len() + fields.len(),
-            Response::GetEndpoints(fields) => id(GET_ENDPOINTS).len() + fields.len(),
-            Response::Fault(fields) => id(FAULT).len() + fields.len(),
+            Response::FindServers(fields) => id(FIND_SERVERS_RESPONSE).len() + fields.len(),
+            Response::GetEndpoints(fields) => id(GET_ENDPOINTS_RESPONSE).len() + fields.len(),
+            Response::Fault(fields) => id(SERVICE_FAULT).len() + fields.len(),
         }
     }
 
     fn emit_body<S: Sink>(&self, out: &mut S) -> Result<(), NoMemory> {
         match self {
-            Response::FindServers(fields) => (&id(FIND_SERVERS), fields).emit_parts(out),
-            Response::GetEndpoints(fields) => (&id(GET_ENDPOINTS), fields).emit_parts(out),
-            Response::Fault(fields) => (&id(FAULT), fields).emit_parts(out),
+            Response::FindServers(fields) => (&id(FIND_SERVERS_RESPONSE), fields).emit_parts(out),
+            Response::GetEndpoints(fields) => (&id(GET_ENDPOINTS_RESPONSE), fields).emit_parts(out),
+            Response::Fault(fields) => (&id(SERVICE_FAULT), fields).emit_parts(out),
         }
     }
 
     #[tactic(auto, unfolding(crate::specs::Responses::response_of))]
     fn parse_body(alloc: Global, input: &[u8]) -> Result<Response, ReadFault> {
         let (type_id, rest) = NodeId::read_front(alloc, input)?;
-        if is(&type_id, FIND_SERVERS) {
+        if is(&type_id, FIND_SERVERS_RESPONSE) {
             return Ok(Response::FindServers(read_whole(alloc, rest)?));
         }
-        if is(&type_id, GET_ENDPOINTS) {
+        if is(&type_id, GET_ENDPOINTS_RESPONSE) {
             return Ok(Response::GetEndpoints(read_whole(alloc, rest)?));
         }
-        if is(&type_id, FAULT) {
+        if is(&type_id, SERVICE_FAULT) {
             return Ok(Response::Fault(read_whole(alloc, rest)?));
         }
         Err(ReadFault::Refused)

@@ -14,7 +14,7 @@ use ua_value::{DateTime, UaBytes};
 /// An open response for channel 7 that grants this token.
 fn granting(alloc: Global, token_id: u32, revised_lifetime: u32) -> OpenResponse {
     OpenResponse {
-        header: response_header(alloc, 0, 1, 0),
+        header: response_header(0, 1, 0),
         server_protocol_version: 0,
         channel_id: 7,
         token_id,

@@ -23,6 +23,8 @@ mod clients;
 #[cfg(test)]
 mod conversations;
 #[cfg(test)]
+mod embedding;
+#[cfg(test)]
 mod keys;
 #[cfg(test)]
 mod limits;

@@ -9,8 +9,8 @@ use crate::vectors::{
 use std::alloc::{AllocError, Global};
 use ua_service::{
     ApplicationDescription, Body, CloseRequest, EndpointDescription, OpenRequest, OpenResponse,
-    Request, Response, laws, read_close, read_open, read_open_response, read_request,
-    read_response,
+    Request, Response, body_len, body_of, laws, read_close, read_open, read_open_response,
+    read_request, read_response, write_body,
 };
 use ua_value::ReadFault;
 
@@ -39,7 +39,7 @@ pub(crate) fn is_no_body<B: Body>(alloc: Global, bytes: &[u8]) -> bool {
 
 /// Whether the bytes are the body of the message, also behind other bytes.
 pub(crate) fn is_body_of<B: Body>(alloc: Global, message: &B, body: &[u8]) -> bool {
-    message.body_len() == body.len() as u64
+    body_len(message) == body.len() as u64
         && is_written(alloc, message, body)
         && is_put(alloc, message, body)
 }
@@ -48,7 +48,31 @@ fn is_written<B: Body>(alloc: Global, message: &B, body: &[u8]) -> bool {
     let Ok(mut out) = [7].to_vec(alloc) else {
         return false;
     };
-    message.write_body(&mut out).is_ok() && is_behind(out.as_slice(), body)
+    write_body(message, &mut out).is_ok() && is_behind(out.as_slice(), body)
+}
+
+fn is_given<B: Body>(alloc: Global, body: &[u8]) -> bool {
+    if body.len() > 1000 {
+        return false;
+    }
+    match B::read_body(alloc, body) {
+        Ok(message) => is_the_body(body_of(alloc, message), body),
+        Err(_) => false,
+    }
+}
+
+fn is_the_body(found: Result<Vec<u8>, AllocError>, body: &[u8]) -> bool {
+    match found {
+        Ok(found) => found.as_slice() == body,
+        Err(_) => false,
+    }
+}
+
+#[test]
+fn messages_give_their_bodies(rt: HostRuntime) {
+    assert!(rt; is_given::<Request>(rt.alloc(), FIND_REQUEST_BODY));
+    assert!(rt; is_given::<Response>(rt.alloc(), FAULT_RESPONSE_BODY));
+    assert!(rt; is_given::<OpenResponse>(rt.alloc(), OPEN_RESPONSE_BODY));
 }
 
 fn is_put<B: Body>(alloc: Global, message: &B, body: &[u8]) -> bool {

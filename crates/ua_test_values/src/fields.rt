@@ -253,6 +253,6 @@ fn header_is_written(alloc: Global, header: ResponseHeader) -> bool {
 #[test]
 fn headers_have_moment_handle_and_status(rt: HostRuntime) {
     let alloc = rt.alloc();
-    let header = response_header(alloc, 1, 0x0203_0405, 0x800B_0000);
+    let header = response_header(1, 0x0203_0405, 0x800B_0000);
     assert!(rt; header_is_written(alloc, header));
 }

@@ -46,9 +46,9 @@ pub(crate) fn hello_of(alloc: Global, bytes: &[u8]) -> Result<Hello, ReadFault> 
     }
 }
 
-fn acknowledge_of(alloc: Global, bytes: &[u8]) -> Result<Ack, ReadFault> {
+fn acknowledge_of(bytes: &[u8]) -> Result<Ack, ReadFault> {
     match whole(bytes) {
-        Some(frame) => Ack::read(alloc, &frame),
+        Some(frame) => Ack::read(&frame),
         None => Err(ReadFault::NoMemory),
     }
 }
@@ -137,7 +137,7 @@ fn is_told(alloc: Global) -> bool {
 #[test]
 fn acknowledge_and_error_are_read(rt: HostRuntime) {
     let alloc = rt.alloc();
-    assert!(rt; acknowledge_of(alloc, ACKNOWLEDGE) == Ok(AGREED));
+    assert!(rt; acknowledge_of(ACKNOWLEDGE) == Ok(AGREED));
     assert!(rt; is_error(alloc, ERROR, BAD_TCP_MESSAGE_TYPE_INVALID, None));
     assert!(rt; is_error(alloc, TOLD, BAD_DECODING_ERROR, Some("no")));
     assert!(rt; is_told(alloc));
@@ -217,7 +217,7 @@ fn fields_of_another_length_are_refused(rt: HostRuntime) {
     for len in 8..56u8 {
         assert!(rt; cut_hello_is_refused(alloc, len), "{len}");
     }
-    assert!(rt; acknowledge_of(alloc, LONGER) == Err(ReadFault::Refused));
+    assert!(rt; acknowledge_of(LONGER) == Err(ReadFault::Refused));
 }
 
 /// The error frame with another type.
@@ -228,7 +228,7 @@ fn frames_of_another_type_are_refused(rt: HostRuntime) {
     let alloc = rt.alloc();
     assert!(rt; matches!(error_of(alloc, OTHER_TYPE), Err(ReadFault::Refused)));
     assert!(rt; matches!(error_of(alloc, ERROR), Ok(_)));
-    assert!(rt; acknowledge_of(alloc, HELLO) == Err(ReadFault::Refused));
+    assert!(rt; acknowledge_of(HELLO) == Err(ReadFault::Refused));
     assert!(rt; matches!(hello_of(alloc, ACKNOWLEDGE), Err(ReadFault::Refused)));
 }
 

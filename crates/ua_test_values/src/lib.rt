@@ -9,11 +9,15 @@ mod arrays;
 #[cfg(test)]
 mod bodies;
 #[cfg(test)]
+mod counts;
+#[cfg(test)]
 mod depth;
 #[cfg(test)]
 mod fields;
 #[cfg(test)]
 mod frames;
+#[cfg(test)]
+mod given;
 #[cfg(test)]
 mod making;
 #[cfg(test)]

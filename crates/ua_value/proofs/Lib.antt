@@ -1,5 +1,7 @@
 pub mod Items
 pub mod InOrder
 pub mod Utf8
+pub mod Tested
 pub mod Cells
+pub mod Digits
 mod Rows

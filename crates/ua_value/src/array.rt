@@ -2,9 +2,12 @@
 #![tactic(auto, unfolding(crate::specs::Array::array))]
 
 ghost use Rattle.std.specs.Prelude.{◌≡◌, ◌≤◌, ◌<◌, ◌++◌, ◌↔◌, length, option_map, option_copied, Err, IfOk, IfErr, IsErrOf, OnOk, OnErr};
+ghost use Rattle.std.specs.Option.{option_eq};
+ghost use Rattle.std.specs.Cmp.{partial_equiv_from_equiv};
+ghost use Rattle.std.specs.Cmp.Lexicographic.{pointwise, lists_equiv, options_equiv};
 ghost use Rattle.std.specs.Int.{w32};
 ghost use Rattle.std.specs.List.{flat_map, AllByRecursion};
-ghost use Rattle.ua_value.specs.Format.{input_limit, AppendsPart, Gives};
+ghost use Rattle.ua_value.specs.Format.{input_limit, AppendsPart, Gives, Reads};
 ghost use Rattle.ua_value.specs.Text.{longest};
 ghost use Rattle.ua_value.specs.Number.{unsigned};
 ghost use Rattle.ua_value.specs.Array.{array, items_at, CountsMore};
@@ -104,7 +107,7 @@ fn emit_items<T: Wire, S: Sink>(items: &[T], out: &mut S) -> Result<(), NoMemory
 fn copy_items<T: Wire>(alloc: Global, items: &[T]) -> Result<Vec<T>, NoMemory>
     ensures { IfOk result (λ v. v.items ≡ items.now) }
 {
-    let mut copies = Vec::new(alloc);
+    let mut copies = Vec::with_capacity(alloc, items.len())?;
     for item in items {
         copies.push(item.copy()?)?;
     }
@@ -131,10 +134,31 @@ fn read_items<T: Wire>(
     Ok((items, rest))
 }
 
+/// Equal where both are none, or both have equal items in the same order.
+impl<T: Wire + Eq> PartialEq for Array<T> {
+    ghost eq = { option_eq (pointwise T.eq) };
+
+    ghost laws = { partial_equiv_from_equiv (options_equiv (lists_equiv T.Eq.laws)) };
+
+    fn eq(&self, other: &Array<T>) -> bool {
+        match (self.get(), other.get()) {
+            (None, None) => true,
+            (Some(a), Some(b)) => a == b,
+            _ => false,
+        }
+    }
+}
+
+impl<T: Wire + Eq> Eq for Array<T> {
+    ghost laws = { options_equiv (lists_equiv T.Eq.laws) };
+}
+
 impl<T: Wire> Wire for Array<T> {
     ghost format = { array T.format };
 
     ghost most = { 1152921504606846980 };
+
+    ghost Grows = { Unit {0} };
 
     fn len(&self) -> u64 {
         match &self.items {
@@ -167,6 +191,7 @@ impl<T: Wire> Wire for Array<T> {
         ensures gives { Gives (λ x. (x.0, x.1.now)) result ((array T.format).grammar.front input.now) }
         ensures shorter { IfOk result (λ x. length x.1.now ≤ length input.now) }
         ensures counted { CountsMore ((unsigned w32).grammar.front input.now) → result ≡ Err ReadFault.Refused }
+        ensures memory { IfErr result (λ e. e ≡ ReadFault.NoMemory → Unit {0}) }
     {
         let Some((count, rest)) = front_u32(input) else {
             return Err(ReadFault::Refused);
@@ -179,6 +204,18 @@ impl<T: Wire> Wire for Array<T> {
         }
         let (items, rest) = read_items(alloc, count, rest)?;
         Ok((Array { items: Some(items) }, rest))
+    }
+
+    fn read(alloc: Global, input: &[u8]) -> Result<(Array<T>, usize), ReadFault>
+        requires { length input.now ≤ input_limit }
+        ensures reads { Reads (array T.format) input.now result }
+        ensures memory { IfErr result (λ e. e ≡ ReadFault.NoMemory → Unit {0}) }
+        ensures counted { CountsMore ((unsigned w32).grammar.front input.now) → result ≡ Err ReadFault.Refused }
+    {
+        match Array::read_front(alloc, input) {
+            Ok((value, rest)) => Ok((value, input.len() - rest.len())),
+            Err(fault) => Err(fault),
+        }
     }
 
     ghost laws = { lawful_array T.format T.laws };

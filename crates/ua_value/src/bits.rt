@@ -16,6 +16,8 @@ impl Wire for FloatBits {
 
     ghost most = { 4 };
 
+    ghost Grows = { ⊥ };
+
     fn len(&self) -> u64 {
         self.0.len()
     }
@@ -45,6 +47,8 @@ impl Wire for DoubleBits {
     ghost format = { double_bits };
 
     ghost most = { 8 };
+
+    ghost Grows = { ⊥ };
 
     fn len(&self) -> u64 {
         self.0.len()

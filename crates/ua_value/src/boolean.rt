@@ -13,6 +13,8 @@ impl Wire for bool {
 
     ghost most = { 1 };
 
+    ghost Grows = { ⊥ };
+
     fn len(&self) -> u64 {
         let _value = *self;
         1

@@ -4,6 +4,10 @@
 ghost use Rattle.std.specs.Prelude.{◌≡◌, ◌≤◌, ◌<◌, ◌↔◌, length, Some, None, option_map, option_copied, IfSome, IfOk, IfErr, IsErrOf};
 ghost use Rattle.ua_value.specs.Text.{byte_string, longest};
 ghost use Rattle.ua_value.specs.TextLaws.{lawful_byte_string};
+ghost use Rattle.std.specs.Option.{option_eq};
+ghost use Rattle.std.specs.Prelude.{bytes_eq};
+ghost use Rattle.std.specs.Cmp.{partial_equiv_from_equiv};
+ghost use Rattle.std.specs.Cmp.Lexicographic.{nat_list_eq_equiv, options_equiv};
 
 use crate::fault::{NoMemory, ReadFault, ValueFault};
 use crate::number::front_u32;
@@ -11,8 +15,8 @@ use crate::wire::{Sink, Wire, bytes_known};
 use std::alloc::Global;
 use std::marker::Model;
 
-/// The greatest length of a text, a byte string or an array.
-pub(crate) const LONGEST: u32 = 2147483647;
+/// The greatest length of a text, a byte string or an array: a count is a signed number of 32 bits (OPC 10000-6 5.2.2.4, 5.2.5).
+pub const LONGEST: u32 = 2147483647;
 
 /// The ByteString at the front, lent from the bytes, and what follows it. `None` where no beginning of the bytes spells one: they end before it does,
 /// or its length is below -1.
@@ -31,7 +35,7 @@ pub fn bytes_front(input: &[u8]) -> Option<(Option<&[u8]>, &[u8])>
     Some((Some(bytes), rest))
 }
 
-/// At most 2147483647 bytes, or none. No bytes at all and none are different values.
+/// At most [`LONGEST`] bytes, or none. No bytes at all and none are different values.
 #[derive(Debug, Drop)]
 pub struct UaBytes {
     bytes: Option<Vec<u8>>,
@@ -101,10 +105,31 @@ impl UaBytes {
     }
 }
 
+/// Equal where both are none, or both have the same bytes.
+impl PartialEq for UaBytes {
+    ghost eq = { option_eq bytes_eq };
+
+    ghost laws = { partial_equiv_from_equiv (options_equiv nat_list_eq_equiv) };
+
+    fn eq(&self, other: &UaBytes) -> bool {
+        match (self.get(), other.get()) {
+            (None, None) => true,
+            (Some(a), Some(b)) => a == b,
+            _ => false,
+        }
+    }
+}
+
+impl Eq for UaBytes {
+    ghost laws = { options_equiv nat_list_eq_equiv };
+}
+
 impl Wire for UaBytes {
     ghost format = { byte_string };
 
     ghost most = { 2147483651 };
+
+    ghost Grows = { Unit {0} };
 
     fn len(&self) -> u64 {
         match &self.bytes {

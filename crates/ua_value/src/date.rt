@@ -16,6 +16,8 @@ impl Wire for DateTime {
 
     ghost most = { 8 };
 
+    ghost Grows = { ⊥ };
+
     fn len(&self) -> u64 {
         self.0.len()
     }

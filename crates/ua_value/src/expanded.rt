@@ -16,7 +16,7 @@ use std::alloc::Global;
 
 /// A node id, the URI of its namespace, which is null where it is absent, and the index of its server, which is 0 where it is absent. A null URI
 /// or an index 0 that is flagged reads as absent.
-#[derive(Debug, Drop)]
+#[derive(Debug, PartialEq, Eq, Drop)]
 pub struct ExpandedNodeId {
     pub node: NodeId,
     pub uri: UaString,
@@ -51,6 +51,8 @@ impl Wire for ExpandedNodeId {
     ghost format = { expanded_node_id };
 
     ghost most = { 2147483654 + 2147483651 + 4 };
+
+    ghost Grows = { Unit {0} };
 
     #[tactic(auto, using(crate::specs::ExpandedLaws::length_expanded), unfolding(crate::specs::Expanded::expanded_node_id))]
     fn len(&self) -> u64 {

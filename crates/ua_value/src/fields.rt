@@ -1,6 +1,6 @@
 //! Several values, one after another.
 
-ghost use Rattle.std.specs.Prelude.{◌≡◌, ◌≤◌, ◌++◌, List, ℕ, length, OnOk, OnErr, IfOk};
+ghost use Rattle.std.specs.Prelude.{◌≡◌, ◌≤◌, ◌++◌, List, ℕ, length, OnOk, OnErr, IfOk, IfErr, ◌⊎◌};
 ghost use Rattle.ua_value.specs.Format.{AppendsPart, Format, IsLawful, Gives, input_limit};
 ghost use Rattle.ua_value.specs.Sequence.{pair, part};
 ghost use Rattle.ua_value.specs.SequenceLaws.{lawful_pair};
@@ -14,17 +14,24 @@ use std::alloc::Global;
 pub trait Fields: Sized + Drop {
     ghost format: { Format Self };
 
-    /// The fields that the input begins with, and what follows them. `Refused` where no beginning of the input spells them.
+    // that a field may take memory
+    ghost Grows: { Type 0 };
+
+    /// The fields that the input begins with, and what follows them. `Refused` where no beginning of the input spells them; `NoMemory` only where a
+    /// field may take memory.
     fn read_fields(alloc: Global, input: &[u8]) -> Result<(Self, &[u8]), ReadFault>
         requires { length input.now ≤ input_limit }
         ensures gives { Gives (λ x. (x.0, x.1.now)) result (format.grammar.front input.now) }
-        ensures shorter { IfOk result (λ x. length x.1.now ≤ length input.now) };
+        ensures shorter { IfOk result (λ x. length x.1.now ≤ length input.now) }
+        ensures memory { IfErr result (λ e. e ≡ ReadFault.NoMemory → Grows) };
 
     ghost laws: { IsLawful format };
 }
 
 impl<T: Wire> Fields for T {
     ghost format = { T.format };
+
+    ghost Grows = { T.Grows };
 
     fn read_fields(alloc: Global, input: &[u8]) -> Result<(T, &[u8]), ReadFault> {
         T::read_front(alloc, input)
@@ -35,6 +42,8 @@ impl<T: Wire> Fields for T {
 
 impl<T: Wire, F: Fields> Fields for (T, F) {
     ghost format = { pair T.format F.format };
+
+    ghost Grows = { T.Grows ⊎ F.Grows };
 
     fn read_fields(alloc: Global, input: &[u8]) -> Result<((T, F), &[u8]), ReadFault> {
         let (first, rest) = T::read_front(alloc, input)?;
@@ -55,6 +64,7 @@ pub fn read_part<T: Wire>(
     requires { length input.now ≤ input_limit }
     ensures gives { Gives (λ x. (x.0, x.1.now)) result ((part flagged absent T.format.grammar).front input.now) }
     ensures shorter { IfOk result (λ x. length x.1.now ≤ length input.now) }
+    ensures memory { IfErr result (λ e. e ≡ ReadFault.NoMemory → T.Grows) }
 {
     if flagged {
         T::read_front(alloc, input)
@@ -94,7 +104,8 @@ impl<'a, T: Wire, P: Parts> Parts for (&'a T, P) {
 
 /// Copies of two values, or none where memory runs out.
 pub fn copy_two<A: Wire, B: Wire>(first: &A, second: &B) -> Result<(A, B), NoMemory>
-    ensures { IfOk result (λ c. c ≡ (first.now, second.now)) }
+    ensures equal { IfOk result (λ c. c ≡ (first.now, second.now)) }
+    ensures memory { IfErr result (λ _. A.Grows ⊎ B.Grows) }
 {
     let first = first.copy()?;
     let second = second.copy()?;
@@ -107,7 +118,8 @@ pub fn copy_three<A: Wire, B: Wire, C: Wire>(
     second: &B,
     third: &C,
 ) -> Result<(A, B, C), NoMemory>
-    ensures { IfOk result (λ c. c ≡ (first.now, second.now, third.now)) }
+    ensures equal { IfOk result (λ c. c ≡ (first.now, second.now, third.now)) }
+    ensures memory { IfErr result (λ _. A.Grows ⊎ (B.Grows ⊎ C.Grows)) }
 {
     let first = first.copy()?;
     let (second, third) = copy_two(second, third)?;
@@ -117,7 +129,8 @@ pub fn copy_three<A: Wire, B: Wire, C: Wire>(
 /// The value that the whole bytes spell. `Refused` where they spell none, or where bytes are left over.
 pub fn read_whole<T: Fields>(alloc: Global, input: &[u8]) -> Result<T, ReadFault>
     requires { length input.now ≤ input_limit }
-    ensures { Gives (λ v. v) result (only T.format.grammar input.now) }
+    ensures gives { Gives (λ v. v) result (only T.format.grammar input.now) }
+    ensures memory { IfErr result (λ e. e ≡ ReadFault.NoMemory → T.Grows) }
 {
     let (value, rest) = T::read_fields(alloc, input)?;
     if !rest.is_empty() {

@@ -27,6 +27,8 @@ impl Wire for [u8; 8] {
 
     ghost most = { 8 };
 
+    ghost Grows = { ⊥ };
+
     fn len(&self) -> u64 {
         bytes_known(self);
         8
@@ -55,6 +57,8 @@ impl Wire for Guid {
     ghost format = { guid };
 
     ghost most = { 16 };
+
+    ghost Grows = { ⊥ };
 
     fn len(&self) -> u64 {
         self.data1.len() + self.data2.len() + self.data3.len() + self.data4.len()

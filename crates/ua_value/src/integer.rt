@@ -14,6 +14,8 @@ impl Wire for i8 {
 
     ghost most = { 1 };
 
+    ghost Grows = { ⊥ };
+
     fn len(&self) -> u64 {
         let _value = *self;
         1
@@ -42,6 +44,8 @@ impl Wire for i16 {
 
     ghost most = { 2 };
 
+    ghost Grows = { ⊥ };
+
     fn len(&self) -> u64 {
         let _value = *self;
         2
@@ -69,6 +73,8 @@ impl Wire for i32 {
     ghost format = { signed w32 };
 
     ghost most = { 4 };
+
+    ghost Grows = { ⊥ };
 
     fn len(&self) -> u64 {
         let _value = *self;
@@ -100,6 +106,8 @@ impl Wire for i64 {
     ghost format = { signed w64 };
 
     ghost most = { 8 };
+
+    ghost Grows = { ⊥ };
 
     fn len(&self) -> u64 {
         let _value = *self;

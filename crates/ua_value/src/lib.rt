@@ -50,7 +50,7 @@ mod xml;
 
 pub use array::Array;
 pub use bits::{DoubleBits, FloatBits};
-pub use bytes::{UaBytes, bytes_front};
+pub use bytes::{LONGEST, UaBytes, bytes_front};
 pub use date::DateTime;
 pub use expanded::ExpandedNodeId;
 pub use fault::{NoMemory, ReadFault, ValueFault};

@@ -13,7 +13,7 @@ use crate::wire::{Sink, Wire};
 use std::alloc::Global;
 
 /// A text and the locale of its language, as `en-US`. A part that is absent is null; a part that is flagged and null reads as absent.
-#[derive(Debug, Drop)]
+#[derive(Debug, PartialEq, Eq, Drop)]
 pub struct LocalizedText {
     pub locale: UaString,
     pub text: UaString,
@@ -56,6 +56,8 @@ impl Wire for LocalizedText {
     ghost format = { localized_text };
 
     ghost most = { 1 + 2147483651 + 2147483651 };
+
+    ghost Grows = { Unit {0} };
 
     fn len(&self) -> u64 {
         1 + part_len(&self.locale) + part_len(&self.text)

@@ -10,7 +10,7 @@ use crate::wire::{Sink, Wire};
 use std::alloc::Global;
 
 /// A name in a namespace. The namespace is the index of its URI in a list of the server.
-#[derive(Debug, Drop)]
+#[derive(Debug, PartialEq, Eq, Drop)]
 pub struct QualifiedName {
     pub namespace: u16,
     pub name: UaString,
@@ -21,6 +21,8 @@ impl Wire for QualifiedName {
     ghost format = { qualified_name };
 
     ghost most = { 2 + 2147483651 };
+
+    ghost Grows = { Unit {0} };
 
     fn len(&self) -> u64 {
         self.namespace.len() + self.name.len()

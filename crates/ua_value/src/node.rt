@@ -16,7 +16,7 @@ use crate::wire::{Sink, Wire};
 use std::alloc::Global;
 
 /// What names a node in its namespace.
-#[derive(Debug, Drop)]
+#[derive(Debug, PartialEq, Eq, Drop)]
 pub enum Identifier {
     Numeric(u32),
     /// A String.
@@ -27,7 +27,7 @@ pub enum Identifier {
 }
 
 /// The id of a node: its namespace, as the index of a URI, and an identifier there.
-#[derive(Debug, Drop)]
+#[derive(Debug, PartialEq, Eq, Drop)]
 pub struct NodeId {
     pub namespace: u16,
     pub identifier: Identifier,
@@ -38,6 +38,8 @@ impl Wire for NodeId {
     ghost format = { node_id };
 
     ghost most = { 2147483654 };
+
+    ghost Grows = { Unit {0} };
 
     #[tactic(auto, unfolding(crate::specs::Node::node_id, crate::specs::Number::unsigned))]
     fn len(&self) -> u64 {
@@ -87,6 +89,22 @@ impl Wire for NodeId {
 }
 
 impl NodeId {
+    /// The id that is null: the number 0 in namespace 0 (OPC 10000-3 8.2.4).
+    pub fn null() -> NodeId
+        ensures namespace { result.namespace ≡ 0 }
+        ensures identifier { result.identifier ≡ Identifier.Numeric 0 }
+    {
+        NodeId::numeric(0, 0)
+    }
+
+    /// A number in a namespace. It takes no memory.
+    pub fn numeric(namespace: u16, id: u32) -> NodeId
+        ensures namespace { result.namespace ≡ namespace }
+        ensures identifier { result.identifier ≡ Identifier.Numeric id }
+    {
+        node(namespace, Identifier::Numeric(id))
+    }
+
     /// Puts the canonical spelling with its encoding byte raised by the flags, or a beginning of it where memory runs out.
     #[tactic(auto, unfolding(crate::specs::Node::node_id, crate::specs::Number::unsigned, crate::specs::Expanded::raised))]
     pub(crate) fn emit_raised<S: Sink>(&self, flags: u8, out: &mut S) -> Result<(), NoMemory>

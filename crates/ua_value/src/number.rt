@@ -38,6 +38,8 @@ impl Wire for u8 {
 
     ghost most = { 1 };
 
+    ghost Grows = { ⊥ };
+
     fn len(&self) -> u64 {
         let _value = *self;
         1
@@ -65,6 +67,8 @@ impl Wire for u16 {
     ghost format = { unsigned w16 };
 
     ghost most = { 2 };
+
+    ghost Grows = { ⊥ };
 
     fn len(&self) -> u64 {
         let _value = *self;
@@ -94,6 +98,8 @@ impl Wire for u32 {
 
     ghost most = { 4 };
 
+    ghost Grows = { ⊥ };
+
     fn len(&self) -> u64 {
         let _value = *self;
         4
@@ -121,6 +127,8 @@ impl Wire for u64 {
     ghost format = { unsigned w64 };
 
     ghost most = { 8 };
+
+    ghost Grows = { ⊥ };
 
     fn len(&self) -> u64 {
         let _value = *self;

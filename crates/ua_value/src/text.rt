@@ -1,20 +1,22 @@
 //! Texts (OPC 10000-6 5.2.2.4): a length in four bytes and UTF-8, or -1 for none.
 #![tactic(auto, unfolding(crate::specs::Text::bytes_of))]
 
-ghost use Rattle.std.specs.Prelude.{◌≡◌, ◌≤◌, ◌<◌, ◌↔◌, length, if◌then◌else◌, Some, None, option_map, option_copied, IfSome, IfOk, IsErrOf};
+ghost use Rattle.std.specs.Prelude.{◌≡◌, ◌≤◌, ◌<◌, ◌↔◌, length, if◌then◌else◌, Some, None, option_map, option_copied, string_bytes, bytes_eq, IfSome, IfOk, IfErr, IsErrOf};
+ghost use Rattle.std.specs.Option.{option_eq};
+ghost use Rattle.std.specs.Cmp.{partial_equiv_from_equiv};
+ghost use Rattle.std.specs.Cmp.Lexicographic.{nat_list_eq_equiv, options_equiv};
 ghost use Rattle.std.specs.Str.{is_utf8};
 ghost use Rattle.ua_value.specs.Format.{Peeks};
 ghost use Rattle.ua_value.specs.Text.{string, longest};
 ghost use Rattle.ua_value.specs.TextLaws.{lawful_string};
 
-use crate::bytes::LONGEST;
+use crate::bytes::{LONGEST, bytes_front};
 use crate::fault::{NoMemory, ReadFault, ValueFault};
-use crate::number::front_u32;
 use crate::wire::{Sink, Wire};
 use std::alloc::Global;
 use std::marker::Model;
 
-/// A text of at most 2147483647 bytes, or none. No text and the empty text are different values.
+/// A text of at most [`LONGEST`] bytes, or none. No text and the empty text are different values.
 #[derive(Debug, Drop)]
 pub struct UaString {
     text: Option<String>,
@@ -44,20 +46,19 @@ fn text_of(bytes: &[u8]) -> Option<&str>
 
 /// The String at the front, lent from the bytes, and what follows it. `None` where no beginning of the bytes spells one: they end before it does, its
 /// length is below -1, or it is not UTF-8.
+#[tactic(auto, using(crate::proofs::Tested::utf8_tested))]
 pub fn string_front(input: &[u8]) -> Option<(Option<&str>, &[u8])>
     ensures front { option_map (λ p. (option_copied p.0, p.1.now)) result ≡ string.grammar.front input.now }
     ensures shorter { IfSome result (λ p. length p.1.now ≤ length input.now) }
 {
-    let (len, rest) = front_u32(input)?;
-    if len == u32::MAX {
-        return Some((None, rest));
+    let (bytes, rest) = bytes_front(input)?;
+    match bytes {
+        None => Some((None, rest)),
+        Some(bytes) => {
+            let text = text_of(bytes)?;
+            Some((Some(text), rest))
+        }
     }
-    if len > LONGEST || rest.len() < len as usize {
-        return None;
-    }
-    let (bytes, rest) = rest.split_at(len as usize);
-    let text = text_of(bytes)?;
-    Some((Some(text), rest))
 }
 
 /// The String at the front, as it lies in the bytes, and how many of them spell it. `None` where no beginning of the bytes spells one: they end
@@ -92,6 +93,27 @@ impl UaString {
         })
     }
 
+    /// The text as it is, which takes no memory. `TooLong` comes just where it has more than 2147483647 bytes, and no other fault comes; the text is
+    /// then dropped.
+    pub fn from_string(text: String) -> Result<UaString, ValueFault>
+        ensures ok { IfOk result (λ v. v ≡ Some (string_bytes text)) }
+        ensures too_long { IsErrOf result ValueFault.TooLong ↔ (longest < length (string_bytes text)) }
+        ensures fault { IfErr result (λ e. e ≡ ValueFault.TooLong) }
+    {
+        if text.len() > LONGEST as usize {
+            Err(ValueFault::TooLong)
+        } else {
+            Ok(UaString { text: Some(text) })
+        }
+    }
+
+    /// The text, if there is one. It takes no memory.
+    pub fn into_string(self) -> Option<String>
+        ensures { option_map string_bytes result ≡ self }
+    {
+        self.text
+    }
+
     /// The text, if there is one.
     pub fn get(&self) -> Option<&str>
         ensures { option_copied result ≡ self.now }
@@ -103,10 +125,31 @@ impl UaString {
     }
 }
 
+/// Equal where both are none, or both have the same bytes.
+impl PartialEq for UaString {
+    ghost eq = { option_eq bytes_eq };
+
+    ghost laws = { partial_equiv_from_equiv (options_equiv nat_list_eq_equiv) };
+
+    fn eq(&self, other: &UaString) -> bool {
+        match (self.get(), other.get()) {
+            (None, None) => true,
+            (Some(a), Some(b)) => a == b,
+            _ => false,
+        }
+    }
+}
+
+impl Eq for UaString {
+    ghost laws = { options_equiv nat_list_eq_equiv };
+}
+
 impl Wire for UaString {
     ghost format = { string };
 
     ghost most = { 2147483651 };
+
+    ghost Grows = { Unit {0} };
 
     fn len(&self) -> u64 {
         match &self.text {

@@ -1,6 +1,6 @@
 //! Values that are spelled as bytes.
 
-ghost use Rattle.std.specs.Prelude.{◌≡◌, ◌≤◌, ◌++◌, List, ℕ, length, if◌then◌else◌, is_ok, OnOk, OnErr, IfOk};
+ghost use Rattle.std.specs.Prelude.{◌≡◌, ◌≤◌, ◌++◌, List, ℕ, length, if◌then◌else◌, is_ok, OnOk, OnErr, IfOk, IfErr};
 ghost use Rattle.ua_value.specs.Format.{Format, IsLawful, Reads, Gives, AppendsPart, IsBytes, input_limit};
 
 use crate::fault::{NoMemory, ReadFault};
@@ -32,6 +32,9 @@ pub trait Wire: Sized + Drop {
     // no canonical spelling is longer
     ghost most: { ℕ };
 
+    // that a value of the type may take memory: a value that takes none is read and copied without want of it
+    ghost Grows: { Type 0 };
+
     /// The length of the canonical spelling, in bytes. It takes no memory.
     fn len(&self) -> u64
         ensures length { result ≡ length (format.canon self.now) }
@@ -43,10 +46,11 @@ pub trait Wire: Sized + Drop {
         ensures ok { OnOk result (S.contents out.new ≡ S.contents out.old ++ format.canon self.now) }
         ensures err { OnErr result (AppendsPart (S.contents out.old) (S.contents out.new) (format.canon self.now)) };
 
-    /// Appends the canonical spelling. Where memory runs out `out` is unchanged.
+    /// Appends the canonical spelling. Where memory runs out `out` is unchanged. The room for all of it is asked for once, before the first byte.
     fn write(&self, out: &mut Vec<u8>) -> Result<(), NoMemory>
         ensures { out.new.items ≡ (if is_ok result then out.old.items ++ format.canon self.now else out.old.items) }
     {
+        out.reserve(self.len() as usize)?;
         let start = out.len();
         match self.emit(out) {
             Ok(()) => Ok(()),
@@ -57,21 +61,25 @@ pub trait Wire: Sized + Drop {
         }
     }
 
-    /// An equal value, with memory of its own.
+    /// An equal value, with memory of its own. It fails only where the type's values may take memory.
     fn copy(&self) -> Result<Self, NoMemory>
-        ensures { IfOk result (λ v. v ≡ self.now) };
+        ensures equal { IfOk result (λ v. v ≡ self.now) }
+        ensures memory { IfErr result (λ _. Grows) };
 
-    /// The value that the input begins with, and what follows it. `Refused` where no beginning of the input spells a value.
+    /// The value that the input begins with, and what follows it. `Refused` where no beginning of the input spells a value. `NoMemory` comes only where
+    /// the type's values may take memory.
     fn read_front(alloc: Global, input: &[u8]) -> Result<(Self, &[u8]), ReadFault>
         requires { length input.now ≤ input_limit }
         ensures gives { Gives (λ x. (x.0, x.1.now)) result (format.grammar.front input.now) }
-        ensures shorter { IfOk result (λ x. length x.1.now ≤ length input.now) };
+        ensures shorter { IfOk result (λ x. length x.1.now ≤ length input.now) }
+        ensures memory { IfErr result (λ e. e ≡ ReadFault.NoMemory → Grows) };
 
-    /// The value that the input begins with, and how many bytes spell it. `Refused` where no beginning of the input spells a value. Nothing is
-    /// copied but what the value keeps.
+    /// The value that the input begins with, and how many bytes spell it. `Refused` where no beginning of the input spells a value; `NoMemory` only
+    /// where the type's values may take memory. Nothing is copied but what the value keeps.
     fn read(alloc: Global, input: &[u8]) -> Result<(Self, usize), ReadFault>
         requires { length input.now ≤ input_limit }
-        ensures { Reads format input.now result }
+        ensures reads { Reads format input.now result }
+        ensures memory { IfErr result (λ e. e ≡ ReadFault.NoMemory → Grows) }
     {
         match Self::read_front(alloc, input) {
             Ok((value, rest)) => Ok((value, input.len() - rest.len())),

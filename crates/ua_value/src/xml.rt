@@ -1,6 +1,9 @@
 //! XML elements (OPC 10000-6 5.2.2.8): spelled as a String is.
 
-ghost use Rattle.std.specs.Prelude.{◌≡◌, ◌<◌, ◌↔◌, length, option_copied, Some, None, IfOk, IsErrOf};
+ghost use Rattle.std.specs.Prelude.{◌≡◌, ◌<◌, ◌↔◌, length, option_map, option_copied, string_bytes, bytes_eq, Some, None, IfOk, IfErr, IsErrOf};
+ghost use Rattle.std.specs.Option.{option_eq};
+ghost use Rattle.std.specs.Cmp.{partial_equiv_from_equiv};
+ghost use Rattle.std.specs.Cmp.Lexicographic.{nat_list_eq_equiv, options_equiv};
 ghost use Rattle.ua_value.specs.Text.{xml_element, longest};
 ghost use Rattle.ua_value.specs.TextLaws.{lawful_xml_element};
 
@@ -45,6 +48,26 @@ impl XmlElement {
         }
     }
 
+    /// The text as it is, which takes no memory. `TooLong` comes just where it has more than 2147483647 bytes, and no other fault comes; the text is
+    /// then dropped.
+    pub fn from_string(text: String) -> Result<XmlElement, ValueFault>
+        ensures ok { IfOk result (λ v. v ≡ Some (string_bytes text)) }
+        ensures too_long { IsErrOf result ValueFault.TooLong ↔ (longest < length (string_bytes text)) }
+        ensures fault { IfErr result (λ e. e ≡ ValueFault.TooLong) }
+    {
+        match UaString::from_string(text) {
+            Ok(text) => Ok(XmlElement { text }),
+            Err(fault) => Err(fault),
+        }
+    }
+
+    /// The text, if there is one. It takes no memory.
+    pub fn into_string(self) -> Option<String>
+        ensures { option_map string_bytes result ≡ self }
+    {
+        self.text.into_string()
+    }
+
     /// The text, if there is one.
     pub fn get(&self) -> Option<&str>
         ensures { option_copied result ≡ self.now }
@@ -53,10 +76,27 @@ impl XmlElement {
     }
 }
 
+/// Equal where both are none, or both have the same bytes.
+impl PartialEq for XmlElement {
+    ghost eq = { option_eq bytes_eq };
+
+    ghost laws = { partial_equiv_from_equiv (options_equiv nat_list_eq_equiv) };
+
+    fn eq(&self, other: &XmlElement) -> bool {
+        self.text == other.text
+    }
+}
+
+impl Eq for XmlElement {
+    ghost laws = { options_equiv nat_list_eq_equiv };
+}
+
 impl Wire for XmlElement {
     ghost format = { xml_element };
 
     ghost most = { 2147483651 };
+
+    ghost Grows = { Unit {0} };
 
     fn len(&self) -> u64 {
         self.text.len()

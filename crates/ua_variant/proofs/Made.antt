@@ -1,7 +1,7 @@
 -- What the constructors make is a value.
 use Rattle.std.proofs.Common.{◌≡◌, ◌≤◌, ◌<◌, ◌*◌, ℕ, ℤ, suc, List, [], ◌∷◌, Bool, true, false, length, Option, Some, None, refl, ap, subst, ◌∙◌, arith}
 use Rattle.std.specs.Prelude.{◌&&◌, ◌==◌, IfSome}
-use Rattle.std.proofs.lemmas.Bool.{eqb-true}
+use Rattle.std.proofs.lemmas.Bool.{and_parts, eqb-true}
 use Rattle.ua_value.specs.Format.{input_limit}
 use Rattle.ua_value.specs.Text.{longest}
 use Rattle.ua_value.specs.Lists.{same_some}
@@ -18,14 +18,10 @@ use Rattle.ua_variant.specs.Spelling.{lengths, IsShape, AreSound, IsVariant}
 use Rattle.ua_variant.specs.Lists.{IsShortList}
 use Rattle.ua_variant.specs.Making.{are_of, are_all_of, has_shape}
 
-both_true : (a b : Bool) → (a && b) ≡ true → (a ≡ true) × (b ≡ true)
-both_true true b e = (refl, e)
-both_true false b e = absurd cc
-
 all_of : (k : Kind) (es : List Element) → are_of k es ≡ true → AllOf k (items_of es)
 all_of k [] h = tt
 all_of k (e ∷ es) h =
-    let b = both_true (kind_number (kind e) == kind_number k) (are_of k es) h in
+    let b = and_parts (kind_number (kind e) == kind_number k) (are_of k es) h in
     (kind_inj (kind e) k (eqb-true _ _ b.0), all_of k es b.1)
 
 count_items : (es : List Element) → count (items_of es) ≡ length es

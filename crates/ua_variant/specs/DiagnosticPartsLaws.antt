@@ -1,5 +1,6 @@
 -- The laws of the parts of a DiagnosticInfo.
 use Rattle.std.proofs.Common.{◌≡◌, ◌<◌, ◌+◌, ℕ, Bool, true, false, None, refl, ltb, ltb-true}
+use Rattle.std.proofs.lemmas.Bool.{and_parts}
 use Rattle.std.specs.Prelude.{◌&&◌, is_some}
 use Rattle.std.specs.Int.{w32}
 use Rattle.ua_value.specs.Status.{lawful_status_code}
@@ -27,13 +28,9 @@ lawful_parts = lawful_shown _ _ row (λ p. refl) (λ r. refl)
 abbrev at_both : (Bool → Bool) → Bool
 at_both test = test false && test true
 
-both_true : (a b : Bool) → (a && b) ≡ true → (a ≡ true) × (b ≡ true)
-both_true true b e = (refl, e)
-both_true false b e = absurd cc
-
 at_each : (test : Bool → Bool) → at_both test ≡ true → (b : Bool) → test b ≡ true
-at_each test h false = (both_true (test false) (test true) h).0
-at_each test h true = (both_true (test false) (test true) h).1
+at_each test h false = (and_parts (test false) (test true) h).0
+at_each test h true = (and_parts (test false) (test true) h).1
 
 abbrev agree : Bool → Bool → Bool
 agree true b = b
@@ -76,13 +73,13 @@ pub flags : (p : DiagnosticParts) (inner : Bool) → Flags p inner (diagnostic_p
 unfolding diagnostic_parts
 flags p i =
     let m = diagnostic_parts.mask p + flag i 0x40 in
-    let all = both_true (ltb m 128) _ (mask_is (is_some p.symbolic_id) (is_some p.namespace_uri) (is_some p.locale) (is_some p.localized_text) (is_some p.additional_info) (is_some p.inner_status) i) in
-    let a = both_true _ _ all.1 in
-    let b = both_true _ _ a.1 in
-    let c = both_true _ _ b.1 in
-    let d = both_true _ _ c.1 in
-    let e = both_true _ _ d.1 in
-    let f = both_true _ _ e.1 in
+    let all = and_parts (ltb m 128) _ (mask_is (is_some p.symbolic_id) (is_some p.namespace_uri) (is_some p.locale) (is_some p.localized_text) (is_some p.additional_info) (is_some p.inner_status) i) in
+    let a = and_parts _ _ all.1 in
+    let b = and_parts _ _ a.1 in
+    let c = and_parts _ _ b.1 in
+    let d = and_parts _ _ c.1 in
+    let e = and_parts _ _ d.1 in
+    let f = and_parts _ _ e.1 in
     record {
       below = ltb-true _ _ all.0;
       shows = (same _ _ a.0, (same _ _ b.0, (same _ _ c.0, (same _ _ d.0, (same _ _ e.0, same _ _ f.0)))));

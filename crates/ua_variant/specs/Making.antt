@@ -4,7 +4,7 @@ use Rattle.ua_variant.specs.declared.fault.VariantFault.{VariantFault}
 use Rattle.ua_variant.specs.declared.fault.VariantFault.TheVariants as faults
 use Rattle.ua_variant.specs.declared.stamps.Stamps.{Stamps}
 use Rattle.ua_variant.specs.Kinds.{Kind, kind_number}
-use Rattle.ua_variant.specs.Values.{Variant, null, one, null_array, many, Element, Items, DataValue, without, with_value, kind, is_variant, depth, element_depth, list_depth, deepest, count_of, is_shape}
+use Rattle.ua_variant.specs.Values.{Variant, null, one, null_array, many, Element, leaf, variant, data_value, info, Items, DataValue, without, with_value, kind, is_variant, depth, element_depth, list_depth, deepest, count_of, is_shape}
 
 -- why a call refused, if it did
 abbrev pub fault_of : {A : Type 0} → Result A VariantFault → Option VariantFault
@@ -48,6 +48,13 @@ IsFull None = ⊥
 IsFull (Some v) = depth v ≡ deepest
 
 -- ---- what they hold
+
+-- an element that is neither a Variant nor a DataValue
+abbrev pub HoldsNone : Element → Type 0
+HoldsNone (leaf p v) = Unit {0}
+HoldsNone (variant v) = ⊥
+HoldsNone (data_value v) = ⊥
+HoldsNone (info i) = Unit {0}
 
 abbrev pub is_null : Variant → Bool
 is_null null = true

@@ -1,5 +1,8 @@
 -- Reading variants and data values from the front of bytes, to a depth.
-use Rattle.std.specs.Prelude.{ℕ, zero, suc, ◌==◌, Option, Some, None, Bool}
+use Rattle.std.specs.Prelude.{◌≡◌, ℕ, zero, suc, ◌==◌, List, [], ◌∷◌, Option, Some, None, Bool, true}
+use Rattle.std.specs.Int.{w32}
+use Rattle.ua_value.specs.Number.{unsigned}
+use Rattle.ua_value.specs.Array.{CountsMore}
 use Rattle.ua_value.specs.Format.{Grammar}
 use Rattle.ua_value.specs.Sequence.{both, made, never, absent, either, headed}
 use Rattle.ua_value.specs.Localized.{has}
@@ -67,6 +70,16 @@ unfoldable mutual
   pub data_within : ℕ → Grammar DataValue
   data_within zero = never
   data_within (suc d) = headed (behind_mask (within d))
+
+-- an array whose count says more elements than there are bytes behind it
+abbrev pub VariantCountsMore : List ℕ → Type 0
+VariantCountsMore [] = ⊥
+VariantCountsMore (head ∷ rest) = (has head 0x80 ≡ true) × CountsMore ((unsigned w32).grammar.front rest)
+
+-- such an array as the value of a DataValue
+abbrev pub DataCountsMore : List ℕ → Type 0
+DataCountsMore [] = ⊥
+DataCountsMore (mask ∷ rest) = (has mask 0x01 ≡ true) × VariantCountsMore rest
 
 abbrev pub elements_within : ℕ → Kind → Grammar Element
 elements_within d = elements (within d) (data_within d) (diagnostics.within d)

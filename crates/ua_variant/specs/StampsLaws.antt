@@ -1,5 +1,6 @@
 -- The laws of what a DataValue says beside its value.
 use Rattle.std.proofs.Common.{◌≡◌, ◌<◌, ◌+◌, ℕ, Bool, true, false, refl, ltb, ltb-true}
+use Rattle.std.proofs.lemmas.Bool.{and_parts}
 use Rattle.std.specs.Prelude.{◌&&◌, is_some}
 use Rattle.ua_value.specs.Date.{lawful_date_time}
 use Rattle.ua_value.specs.Status.{lawful_status_code}
@@ -21,13 +22,9 @@ lawful_stamps = lawful_shown _ _ row (λ s. refl) (λ r. refl)
 abbrev pub at_both : (Bool → Bool) → Bool
 at_both test = test false && test true
 
-pub both_true : (a b : Bool) → (a && b) ≡ true → (a ≡ true) × (b ≡ true)
-both_true true b e = (refl, e)
-both_true false b e = absurd cc
-
 pub at_each : (test : Bool → Bool) → at_both test ≡ true → (b : Bool) → test b ≡ true
-at_each test h false = (both_true (test false) (test true) h).0
-at_each test h true = (both_true (test false) (test true) h).1
+at_each test h false = (and_parts (test false) (test true) h).0
+at_each test h true = (and_parts (test false) (test true) h).1
 
 abbrev pub agree : Bool → Bool → Bool
 agree true b = b
@@ -68,13 +65,13 @@ pub flags : (s : Stamps) (valued : Bool) → Flags s valued (flag valued 0x01 + 
 unfolding stamps
 flags s v =
     let m = flag v 0x01 + stamps.mask s in
-    let all = both_true (ltb m 64) _ (mask_is v (is_some s.status) (is_some s.source_timestamp) (is_some s.source_picoseconds) (is_some s.server_timestamp) (is_some s.server_picoseconds)) in
-    let a = both_true _ _ all.1 in
-    let b = both_true _ _ a.1 in
-    let c = both_true _ _ b.1 in
-    let d = both_true _ _ c.1 in
-    let e = both_true _ _ d.1 in
-    let f = both_true _ _ e.1 in
+    let all = and_parts (ltb m 64) _ (mask_is v (is_some s.status) (is_some s.source_timestamp) (is_some s.source_picoseconds) (is_some s.server_timestamp) (is_some s.server_picoseconds)) in
+    let a = and_parts _ _ all.1 in
+    let b = and_parts _ _ a.1 in
+    let c = and_parts _ _ b.1 in
+    let d = and_parts _ _ c.1 in
+    let e = and_parts _ _ d.1 in
+    let f = and_parts _ _ e.1 in
     record {
       low = ltb-true _ _ all.0;
       known = same _ _ a.0;

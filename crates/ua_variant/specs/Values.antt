@@ -3,6 +3,7 @@ use Rattle.std.specs.Prelude.{◌≡◌, ℕ, suc, ℤ, pos, negsuc, ◌*◌, �
 use Rattle.ua_variant.specs.declared.stamps.Stamps.{Stamps}
 use Rattle.ua_variant.specs.Kinds.{Plain, Kind, plain, variant_kind, data_kind, info_kind, Payload}
 use Rattle.ua_variant.specs.Diagnostic as diagnostics
+pub use Rattle.ua_variant.specs.Diagnostic.{deepest}
 
 mutual
   pub data Variant : Type 0 where
@@ -54,10 +55,6 @@ abbrev mutual
   pub data_depth : DataValue → ℕ
   data_depth (without s) = 1
   data_depth (with_value v s) = suc (depth v)
-
--- none is deeper
-abbrev pub deepest : ℕ
-deepest = 100
 
 abbrev pub count : Items → ℕ
 count no_items = 0

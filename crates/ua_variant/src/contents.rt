@@ -3,7 +3,7 @@
 ghost use Rattle.std.specs.Prelude.{◌≡◌, ◌≤◌, map, option_map, option_copied};
 ghost use Rattle.ua_variant.specs.Values.{depth, items_of, deepest};
 ghost use Rattle.ua_variant.specs.Making.{is_null, is_array, kind_in, one_in, elements_in, dimensions_in};
-ghost use Rattle.ua_variant.specs.View.{kind_of, element};
+ghost use Rattle.ua_variant.specs.View.{kind_of, element, items_in};
 
 use crate::kind::Kind;
 use crate::variant::{Body, Element, Variant};
@@ -71,6 +71,28 @@ impl Variant {
             Body::Null => None,
             Body::One(_) => None,
             Body::Array(_, _, dimensions) => dimensions.get(),
+        }
+    }
+
+    /// The single value, which takes no memory. An array is dropped.
+    pub fn into_value(self) -> Option<Element>
+        ensures { option_map element result ≡ one_in self }
+    {
+        match self.body {
+            Body::Null => None,
+            Body::One(value) => Some(value),
+            Body::Array(_, _, _) => None,
+        }
+    }
+
+    /// The elements of an array that is not null, which takes no memory. A single value is dropped.
+    pub fn into_elements(self) -> Option<Vec<Element>>
+        ensures { option_map items_of (items_in result) ≡ elements_in self }
+    {
+        match self.body {
+            Body::Null => None,
+            Body::One(_) => None,
+            Body::Array(_, elements, _) => elements,
         }
     }
 

@@ -1,6 +1,7 @@
 //! Copies of variants and data values.
 
 ghost use Rattle.std.specs.Prelude.{◌≡◌, map, IfOk};
+ghost use Rattle.ua_variant.specs.Making.{HoldsNone};
 ghost use Rattle.ua_variant.specs.View.{element, items_in};
 
 use crate::variant::{Body, DataValue, Element, Variant};
@@ -55,8 +56,19 @@ fn copy_items(items: &Vec<Element>) -> Result<Vec<Element>, NoMemory>
     Ok(copies)
 }
 
-#[cycle(copy)]
-fn copy_element(item: &Element) -> Result<Element, NoMemory>
+impl Element {
+    /// An equal value, with memory of its own.
+    pub fn copy(&self) -> Result<Element, NoMemory>
+        ensures { IfOk result (λ e. element e ≡ element self.now) }
+    {
+        copy_element(self)
+    }
+}
+
+/// The same of a value that holds no other one. Its frame is apart from those of the recursion, so a copy of what is 100 deep needs little stack.
+#[inline(never)]
+fn copy_plain(item: &Element) -> Result<Element, NoMemory>
+    requires { HoldsNone (element item.now) }
     ensures { IfOk result (λ e. element e ≡ element item.now) }
 {
     match item {
@@ -82,6 +94,17 @@ fn copy_element(item: &Element) -> Result<Element, NoMemory>
         Element::QualifiedName(value) => Ok(Element::QualifiedName(value.copy()?)),
         Element::LocalizedText(value) => Ok(Element::LocalizedText(value.copy()?)),
         Element::ExtensionObject(value) => Ok(Element::ExtensionObject(value.copy()?)),
+        Element::DiagnosticInfo(value) => Ok(Element::DiagnosticInfo(value.copied()?)),
+        Element::DataValue(_) => unreachable!(),
+        Element::Variant(_) => unreachable!(),
+    }
+}
+
+#[cycle(copy)]
+fn copy_element(item: &Element) -> Result<Element, NoMemory>
+    ensures { IfOk result (λ e. element e ≡ element item.now) }
+{
+    match item {
         Element::DataValue(value) => {
             let copy = copy_data(value)?;
             Ok(Element::DataValue(Box::new(*Box::allocator(value), copy)?))
@@ -90,7 +113,7 @@ fn copy_element(item: &Element) -> Result<Element, NoMemory>
             let copy = copy_variant(value)?;
             Ok(Element::Variant(Box::new(*Box::allocator(value), copy)?))
         }
-        Element::DiagnosticInfo(value) => Ok(Element::DiagnosticInfo(value.copied()?)),
+        _ => copy_plain(item),
     }
 }
 

@@ -6,17 +6,16 @@ ghost use Rattle.ua_variant.specs.DiagnosticParts.{of_row};
 ghost use Rattle.ua_variant.specs.Diagnostic.{plain, around, depth, deepest, parts_of, inner_of, diagnostic_of, canon, within, diagnostic, IsDiagnostic, IsFull};
 ghost use Rattle.ua_variant.specs.DiagnosticLaws.{lawful_diagnostic};
 
+use crate::depth::DEEPEST;
 use crate::diagnostic_parts::DiagnosticParts;
 use crate::fault::VariantFault;
 use std::alloc::Global;
 use std::marker::Model;
 use ua_value::{NoMemory, ReadFault, Sink, StatusCode, UaString, Wire};
 
-const DEEPEST: u8 = 100;
-
 /// Vendor-specific diagnostics of an error, and maybe those of the error below it
 /// (OPC 10000-6 5.2.2.12). At most 100 are nested.
-#[derive(Drop)]
+#[derive(Debug, Drop)]
 pub struct DiagnosticInfo {
     levels: u8,
     parts: DiagnosticParts,
@@ -175,6 +174,8 @@ impl Wire for DiagnosticInfo {
 
     ghost most = { 100 * 2147483672 };
 
+    ghost Grows = { Unit {0} };
+
     fn len(&self) -> u64 {
         self.size()
     }
@@ -233,6 +234,36 @@ impl DiagnosticInfo {
                 }
                 Ok(DiagnosticInfo::around(alloc, parts, inner)?)
             }
+        }
+    }
+
+    /// The one that says nothing. It takes no memory.
+    pub fn empty() -> DiagnosticInfo
+        ensures { result ≡ diagnostic_of (of_row (None, (None, (None, (None, (None, None)))))) None }
+    {
+        DiagnosticInfo::plain(DiagnosticParts {
+            symbolic_id: None,
+            namespace_uri: None,
+            locale: None,
+            localized_text: None,
+            additional_info: UaString::null(),
+            inner_status: None,
+        })
+    }
+
+    /// What it says and the diagnostics of the error below it, which takes no memory.
+    pub fn into_parts(self) -> (DiagnosticParts, Option<DiagnosticInfo>)
+        ensures parts { result.0 ≡ parts_of self }
+        ensures inner { result.1 ≡ inner_of self }
+    {
+        let DiagnosticInfo {
+            levels: _,
+            parts,
+            inner,
+        } = self;
+        match inner {
+            None => (parts, None),
+            Some(inner) => (parts, Some(Box::into_inner(inner))),
         }
     }
 

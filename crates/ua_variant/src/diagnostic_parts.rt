@@ -2,16 +2,15 @@
 
 ghost use Rattle.std.specs.Prelude.{◌≡◌, ◌≤◌, ◌<◌, ◌+◌, ◌++◌, length, IfOk, OnOk, OnErr};
 ghost use Rattle.ua_value.specs.Format.{AppendsPart, Gives, input_limit};
-ghost use Rattle.ua_value.specs.Localized.{flag};
 ghost use Rattle.ua_variant.specs.DiagnosticParts.{diagnostic_parts};
 
-use crate::flagged::{Kept, Then, UnlessNull, copy_kept, kept_len, read_kept, text_len};
+use crate::flagged::{Kept, Then, UnlessNull, bit, copy_kept, kept_len, read_kept, text_len};
 use std::alloc::Global;
 use ua_value::{NoMemory, Parts, ReadFault, Sink, StatusCode, UaString, Wire, read_part};
 
 /// The parts of a DiagnosticInfo beside the inner one, in the order of their bytes
 /// (OPC 10000-6 5.2.2.12). The first four are indexes into the string table of a response.
-#[derive(Debug, Drop)]
+#[derive(Debug, PartialEq, Eq, Drop)]
 pub struct DiagnosticParts {
     /// The index of the name of the error.
     pub symbolic_id: Option<i32>,
@@ -130,11 +129,4 @@ impl DiagnosticParts {
             inner_status: copy_kept(&self.inner_status)?,
         })
     }
-}
-
-/// The bit where it is set, else nothing.
-fn bit(set: bool, bit: u8) -> u8
-    ensures { result ≡ flag set bit }
-{
-    if set { bit } else { 0 }
 }

@@ -1,14 +1,16 @@
 //! Values of types that the reader may not know.
 
-ghost use Rattle.std.specs.Prelude.{◌+◌};
+ghost use Rattle.std.specs.Prelude.{◌≡◌, ◌+◌};
 ghost use Rattle.ua_variant.specs.Extension.{extension_body, extension_object};
 ghost use Rattle.ua_variant.specs.ExtensionLaws.{lawful_extension_body, lawful_extension_object};
 
 use std::alloc::Global;
-use ua_value::{Fields, NoMemory, NodeId, Parts, ReadFault, Sink, UaBytes, Wire, XmlElement};
+use ua_value::{
+    Fields, Identifier, NoMemory, NodeId, Parts, ReadFault, Sink, UaBytes, Wire, XmlElement,
+};
 
 /// The value in an ExtensionObject, kept unread.
-#[derive(Debug, Drop)]
+#[derive(Debug, PartialEq, Eq, Drop)]
 pub enum ExtensionBody {
     None,
     /// The bytes that spell the value.
@@ -18,11 +20,25 @@ pub enum ExtensionBody {
 }
 
 /// A value of any structured type, under the id of its encoding (OPC 10000-6 5.2.2.15).
-#[derive(Debug, Drop)]
+#[derive(Debug, PartialEq, Eq, Drop)]
 pub struct ExtensionObject {
     /// The id of the encoding of the body; the null id where there is none.
     pub type_id: NodeId,
     pub body: ExtensionBody,
+}
+
+impl ExtensionObject {
+    /// The one without a body, under the null id (OPC 10000-6 5.2.2.15). It takes no memory.
+    pub fn null() -> ExtensionObject
+        ensures namespace { result.type_id.namespace ≡ 0 }
+        ensures identifier { result.type_id.identifier ≡ Identifier.Numeric 0 }
+        ensures body { result.body ≡ ExtensionBody.None }
+    {
+        ExtensionObject {
+            type_id: NodeId::null(),
+            body: ExtensionBody::None,
+        }
+    }
 }
 
 #[tactic(auto, unfolding(crate::specs::Extension::extension_body))]
@@ -30,6 +46,8 @@ impl Wire for ExtensionBody {
     ghost format = { extension_body };
 
     ghost most = { 1 + 2147483651 };
+
+    ghost Grows = { Unit {0} };
 
     fn len(&self) -> u64 {
         match self {
@@ -83,6 +101,8 @@ impl Wire for ExtensionObject {
     ghost format = { extension_object };
 
     ghost most = { 2147483654 + 2147483652 };
+
+    ghost Grows = { Unit {0} };
 
     fn len(&self) -> u64 {
         self.type_id.len() + self.body.len()

@@ -2,11 +2,19 @@
 
 ghost use Rattle.std.specs.Prelude.{◌≡◌, ◌≤◌, ◌++◌, length, None, IfOk, IfSome};
 ghost use Rattle.ua_value.specs.Format.{Gives, input_limit};
+ghost use Rattle.ua_value.specs.Localized.{flag};
 ghost use Rattle.ua_value.specs.Text.{string};
 ghost use Rattle.ua_variant.specs.Flagged.{kept_at, canon_kept, canon_unless_null};
 
 use std::alloc::Global;
 use ua_value::{NoMemory, Parts, ReadFault, Sink, UaString, Wire};
+
+/// The bit where it is set, else nothing.
+pub(crate) fn bit(set: bool, bit: u8) -> u8
+    ensures { result ≡ flag set bit }
+{
+    if set { bit } else { 0 }
+}
 
 /// A part that is kept wherever it is flagged.
 pub(crate) fn read_kept<T: Wire>(

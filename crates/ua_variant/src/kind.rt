@@ -2,6 +2,7 @@
 
 ghost use Rattle.std.specs.Prelude.{◌≡◌, ◌≤◌, option_map};
 ghost use Rattle.ua_variant.specs.Kinds.{kind_number, kind_named};
+ghost use Rattle.ua_variant.specs.KindNames.{kind_name};
 ghost use Rattle.ua_variant.specs.View.{kind_of};
 
 /// The built-in types (OPC 10000-6 5.1.2). `kind as u8` is the number of each.
@@ -60,6 +61,39 @@ pub enum Kind {
 }
 
 impl Kind {
+    /// The name of the type (OPC 10000-6 5.1.2), as `LocalizedText`.
+    pub fn name(self) -> &'static str
+        ensures { result.now ≡ kind_name self }
+    {
+        match self {
+            Kind::Boolean => "Boolean",
+            Kind::SByte => "SByte",
+            Kind::Byte => "Byte",
+            Kind::Int16 => "Int16",
+            Kind::UInt16 => "UInt16",
+            Kind::Int32 => "Int32",
+            Kind::UInt32 => "UInt32",
+            Kind::Int64 => "Int64",
+            Kind::UInt64 => "UInt64",
+            Kind::Float => "Float",
+            Kind::Double => "Double",
+            Kind::String => "String",
+            Kind::DateTime => "DateTime",
+            Kind::Guid => "Guid",
+            Kind::ByteString => "ByteString",
+            Kind::XmlElement => "XmlElement",
+            Kind::NodeId => "NodeId",
+            Kind::ExpandedNodeId => "ExpandedNodeId",
+            Kind::StatusCode => "StatusCode",
+            Kind::QualifiedName => "QualifiedName",
+            Kind::LocalizedText => "LocalizedText",
+            Kind::ExtensionObject => "ExtensionObject",
+            Kind::DataValue => "DataValue",
+            Kind::Variant => "Variant",
+            Kind::DiagnosticInfo => "DiagnosticInfo",
+        }
+    }
+
     /// The kind's number, 1 to 25, as it stands in the first byte of a Variant.
     pub fn number(self) -> u8
         ensures number { result ≡ kind_number (kind_of self) }

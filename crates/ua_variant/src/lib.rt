@@ -10,6 +10,7 @@ mod element;
 mod extension;
 mod fault;
 mod flagged;
+mod from_plain;
 mod kind;
 mod making;
 mod parts;
@@ -21,6 +22,7 @@ mod variant;
 mod wire;
 mod writing;
 
+pub use depth::DEEPEST;
 pub use diagnostic::DiagnosticInfo;
 pub use diagnostic_parts::DiagnosticParts;
 pub use extension::{ExtensionBody, ExtensionObject};

@@ -10,7 +10,7 @@ ghost use Rattle.ua_variant.specs.Picoseconds.{most_picoseconds};
 ghost use Rattle.ua_variant.specs.Stamps.{of_row};
 ghost use Rattle.ua_variant.specs.View.{kind_of, element, items_in};
 
-use crate::depth::levels_in;
+use crate::depth::{DEEPEST, levels_in};
 use crate::fault::VariantFault;
 use crate::kind::Kind;
 use crate::picoseconds::Picoseconds;
@@ -20,9 +20,6 @@ use crate::stamps::Stamps;
 use crate::variant::{Body, DataValue, Element, Variant};
 use std::alloc::Global;
 use ua_value::{Array, DateTime, StatusCode, Wire, let_go};
-
-/// How deep values may be nested.
-const DEEPEST: u8 = 100;
 
 /// All elements are of the kind.
 fn are_of(kind: Kind, items: &[Element]) -> bool

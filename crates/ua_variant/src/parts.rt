@@ -18,6 +18,16 @@ impl DataValue {
         }
     }
 
+    /// The value, which takes no memory. What else there is is dropped.
+    pub fn into_value(self) -> Option<Variant>
+        ensures { result ≡ value_in self }
+    {
+        match self.value {
+            None => None,
+            Some(value) => Some(Box::into_inner(value)),
+        }
+    }
+
     /// The status of the value.
     pub fn status(&self) -> Option<StatusCode>
         ensures { result ≡ (stamps_in self.now).status }

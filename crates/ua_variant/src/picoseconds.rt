@@ -53,6 +53,8 @@ impl Wire for Picoseconds {
 
     ghost most = { 2 };
 
+    ghost Grows = { ⊥ };
+
     fn len(&self) -> u64 {
         self.tens.len()
     }

@@ -1,11 +1,14 @@
 //! Reading variants and data values from the front of bytes, to a depth.
 
-ghost use Rattle.std.specs.Prelude.{◌≡◌, ◌≤◌, ◌<◌, ◌^◌, length, map, IfOk};
+ghost use Rattle.std.specs.Prelude.{◌≡◌, ◌≤◌, ◌<◌, ◌^◌, length, map, true, Err, IfOk};
 ghost use Rattle.ua_value.specs.Format.{Gives, input_limit};
-ghost use Rattle.ua_value.specs.Array.{items_at};
+ghost use Rattle.ua_value.specs.Number.{unsigned};
+ghost use Rattle.ua_value.specs.Array.{items_at, CountsMore};
+ghost use Rattle.ua_value.specs.Localized.{has};
+ghost use Rattle.std.specs.Int.{w32};
 ghost use Rattle.ua_variant.specs.Values.{deepest, count_of};
 ghost use Rattle.ua_variant.specs.Chains.{list};
-ghost use Rattle.ua_variant.specs.Reading.{singles, arrays, behind_head, behind_mask, within, data_within, elements_within};
+ghost use Rattle.ua_variant.specs.Reading.{singles, arrays, behind_head, behind_mask, within, data_within, elements_within, VariantCountsMore, DataCountsMore};
 ghost use Rattle.ua_variant.specs.View.{kind_of, element, items_in, body_of, data_with};
 
 use crate::diagnostic::DiagnosticInfo;
@@ -15,10 +18,7 @@ use crate::shape::shape_front;
 use crate::stamps::Stamps;
 use crate::variant::{Body, DataValue, Element, Variant};
 use std::alloc::Global;
-use ua_value::{ReadFault, Wire};
-
-/// The greatest number of elements of an array.
-const LONGEST: u32 = 2147483647;
+use ua_value::{LONGEST, ReadFault, front_u32};
 
 /// The Variant at the front that is at most so deep, and what follows it.
 #[cycle(read)]
@@ -31,6 +31,7 @@ pub(crate) fn variant_within(
     requires allowed { allowance ≤ deepest }
     ensures gives { Gives (λ x. (x.0, x.1.now)) result ((within allowance).front input.now) }
     ensures shorter { IfOk result (λ x. length x.1.now ≤ length input.now) }
+    ensures counted { VariantCountsMore input.now → result ≡ Err ReadFault.Refused }
 {
     if allowance == 0 {
         return Err(ReadFault::Refused);
@@ -54,6 +55,7 @@ fn body_behind(
     requires allowed { allowance < deepest }
     ensures gives { Gives (λ x. (body_of x.0, x.1.now)) result ((behind_head (elements_within allowance) head).front input.now) }
     ensures shorter { IfOk result (λ x. length x.1.now ≤ length input.now) }
+    ensures counted { (has head 0x80 ≡ true) × CountsMore ((unsigned w32).grammar.front input.now) → result ≡ Err ReadFault.Refused }
 {
     if head == 0 {
         return Ok((Body::Null, input));
@@ -104,6 +106,7 @@ fn array_within(
     requires allowed { allowance < deepest }
     ensures gives { Gives (λ x. (body_of x.0, x.1.now)) result ((arrays (elements_within allowance) (kind_of kind) flagged).front input.now) }
     ensures shorter { IfOk result (λ x. length x.1.now ≤ length input.now) }
+    ensures counted { CountsMore ((unsigned w32).grammar.front input.now) → result ≡ Err ReadFault.Refused }
 {
     let (items, rest) = list_within(alloc, kind, input, allowance)?;
     let count = count_in(&items);
@@ -133,9 +136,12 @@ fn list_within(
     requires allowed { allowance < deepest }
     ensures gives { Gives (λ x. (items_in x.0, x.1.now)) result ((list (elements_within allowance (kind_of kind))).front input.now) }
     ensures shorter { IfOk result (λ x. length x.1.now ≤ length input.now) }
+    ensures counted { CountsMore ((unsigned w32).grammar.front input.now) → result ≡ Err ReadFault.Refused }
     ensures few { IfOk result (λ x. count_of (items_in x.0) < 2 ^ 31) }
 {
-    let (count, rest) = u32::read_front(alloc, input)?;
+    let Some((count, rest)) = front_u32(input) else {
+        return Err(ReadFault::Refused);
+    };
     if count == u32::MAX {
         return Ok((None, rest));
     }
@@ -215,6 +221,7 @@ pub(crate) fn data_within(
     requires allowed { allowance ≤ deepest }
     ensures gives { Gives (λ x. (x.0, x.1.now)) result ((data_within allowance).front input.now) }
     ensures shorter { IfOk result (λ x. length x.1.now ≤ length input.now) }
+    ensures counted { DataCountsMore input.now → result ≡ Err ReadFault.Refused }
 {
     if allowance == 0 {
         return Err(ReadFault::Refused);
@@ -238,6 +245,7 @@ fn parts_behind(
     requires allowed { allowance < deepest }
     ensures gives { Gives (λ x. (data_with x.0.0 x.0.1, x.1.now)) result ((behind_mask (within allowance) mask).front input.now) }
     ensures shorter { IfOk result (λ x. length x.1.now ≤ length input.now) }
+    ensures counted { (has mask 0x01 ≡ true) × VariantCountsMore input.now → result ≡ Err ReadFault.Refused }
 {
     if mask & 0xc0 != 0 {
         return Err(ReadFault::Refused);

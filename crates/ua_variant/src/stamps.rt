@@ -2,10 +2,9 @@
 
 ghost use Rattle.std.specs.Prelude.{◌≡◌, ◌≤◌, ◌<◌, ◌+◌, ◌++◌, length, IfOk, OnOk, OnErr};
 ghost use Rattle.ua_value.specs.Format.{AppendsPart, Gives, input_limit};
-ghost use Rattle.ua_value.specs.Localized.{flag};
 ghost use Rattle.ua_variant.specs.Stamps.{stamps};
 
-use crate::flagged::{Kept, Then, copy_kept, kept_len, read_kept};
+use crate::flagged::{Kept, Then, bit, copy_kept, kept_len, read_kept};
 use crate::picoseconds::Picoseconds;
 use std::alloc::Global;
 use ua_value::{DateTime, NoMemory, Parts, ReadFault, Sink, StatusCode, Wire};
@@ -113,11 +112,4 @@ impl Stamps {
             server_picoseconds: copy_kept(&self.server_picoseconds)?,
         })
     }
-}
-
-/// The bit where it is set, else nothing.
-pub(crate) fn bit(set: bool, bit: u8) -> u8
-    ensures { result ≡ flag set bit }
-{
-    if set { bit } else { 0 }
 }

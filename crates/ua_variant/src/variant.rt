@@ -12,7 +12,7 @@ use ua_value::{
 
 /// A value of one of the built-in types (OPC 10000-6 5.1.2): what stands in a Variant.
 #[cycle(variant)]
-#[derive(Drop)]
+#[derive(Debug, Drop)]
 pub enum Element {
     /// True or false.
     Boolean(bool),
@@ -67,7 +67,7 @@ pub enum Element {
 }
 
 #[cycle(variant)]
-#[derive(Drop)]
+#[derive(Debug, Drop)]
 pub(crate) enum Body {
     Null,
     One(Element),
@@ -79,7 +79,7 @@ pub(crate) enum Body {
 ///
 /// At most 100 Variants, DataValues and DiagnosticInfos are nested in one another.
 #[cycle(variant)]
-#[derive(Drop)]
+#[derive(Debug, Drop)]
 pub struct Variant {
     pub(crate) levels: u8,
     pub(crate) body: Body,
@@ -89,7 +89,7 @@ pub struct Variant {
 ///
 /// At most 100 Variants, DataValues and DiagnosticInfos are nested in one another.
 #[cycle(variant)]
-#[derive(Drop)]
+#[derive(Debug, Drop)]
 pub struct DataValue {
     pub(crate) levels: u8,
     pub(crate) stamps: Stamps,

@@ -7,8 +7,8 @@ ghost use Rattle.ua_variant.specs.Spelling.{head_of, canon, element_canon, data_
 ghost use Rattle.ua_variant.specs.Lists.{canon_of_items, canon_of_list, IsShortList};
 ghost use Rattle.ua_variant.specs.View.{kind_of, element, items_in};
 
+use crate::flagged::bit;
 use crate::kind::Kind;
-use crate::stamps::bit;
 use crate::variant::{Body, DataValue, Element, Variant};
 use ua_value::{Array, NoMemory, Sink, Wire};
 

@@ -1,8 +1,9 @@
 -- What a whole run of the command does.
 use Rattle.std.specs.Prelude.{◌≡◌, ◌⊎◌, ◌≤◌, ℕ, List, Option}
+use Rattle.std.specs.Io.KnownBytes.{Appends}
 use Rattle.clap.specs.Words.{Text}
 use Rattle.uadisc.specs.Answer.{AnswersBy}
-use Rattle.uadisc.specs.Command.{AsksFor}
+use Rattle.uadisc.specs.Command.{AsksFor, AsksForText, AsksForNothing}
 use Rattle.uadisc.specs.Printed.{Shape, shape_of, PrintsOnto, RefusesOnto}
 use Rattle.uadisc.specs.Show.{ShowsCapture}
 use Rattle.uadisc.specs.Stop.{status_of, IsAnswerStop, IsQuiet}
@@ -28,13 +29,24 @@ Does (Show capture) left old new status = ShowsCapture capture left old new stat
 abbrev pub Done : List Text → Option (List ℕ) → Option (List ℕ) → Option (List ℕ) → ℕ → Type 0
 Done words left old new status = (c : Command) × AsksFor words c × Does c left old new status
 
+-- a text stands behind what the writer held, where the words ask for help or the version
+pub record ShowsText (words : List Text) (old new : Option (List ℕ)) (status : ℕ) : Type 0 where
+  pub asked : AsksForText words
+  pub text : List ℕ
+  pub printed : Appends old new text
+  pub status_is : status ≡ 0
+
+-- what the words ask for is done: a command, or a text
+abbrev pub IsDone : List Text → Option (List ℕ) → Option (List ℕ) → Option (List ℕ) → ℕ → Type 0
+IsDone words left old new status = Done words left old new status ⊎ ShowsText words old new status
+
 -- Bad words are those that ask for nothing, bad settings those of `answer`, and a bad line is the first bad one of what it reads by good settings.
 -- A failed read or write stops only what was asked for, and want of memory may come at any words.
 abbrev pub IsStop : List Text → Option (List ℕ) → Stop → Type 0
-IsStop words left (Words text) = (c : Command) → AsksFor words c → ⊥
+IsStop words left (Words text) = AsksForNothing words
 IsStop words left (Settings fault) = (source : Source) × AsksFor words (Answer source) × IsAnswerStop source left (Settings fault)
 IsStop words left (Line number) = (source : Source) × AsksFor words (Answer source) × IsAnswerStop source left (Line number)
-IsStop words left File = (c : Command) × AsksFor words c
+IsStop words left File = ((c : Command) × AsksFor words c) ⊎ AsksForText words
 IsStop words left NoMemory = Unit {0}
 
 -- something stopped the command before it was done; nothing was printed but where a file failed
@@ -44,6 +56,6 @@ pub record Stopped (words : List Text) (left old new : Option (List ℕ)) (statu
   pub quiet : IsQuiet stop old new
   pub status_is : status ≡ status_of stop
 
--- the command is done, and nothing is told, or it was stopped
+-- what the words ask for is done, and nothing is told, or it was stopped
 abbrev pub Runs : List Text → Option (List ℕ) → Option (List ℕ) → Option (List ℕ) → Option (List ℕ) → Option (List ℕ) → ℕ → Type 0
-Runs words left out out' errors errors' status = (Done words left out out' status × (errors' ≡ errors)) ⊎ Stopped words left out out' status
+Runs words left out out' errors errors' status = (IsDone words left out out' status × (errors' ≡ errors)) ⊎ Stopped words left out out' status

@@ -12,8 +12,6 @@ use Rattle.ua_disco.specs.declared.fault.SettingsFault.{SettingsFault}
 use Rattle.ua_disco.specs.declared.fault.SettingsFault.TheVariants as settings
 use Rattle.uadisc.specs.declared.stop.Stop.{Stop}
 use Rattle.uadisc.specs.declared.stop.Stop.TheVariants.{Words, Settings, Line, File, NoMemory}
-use Rattle.uadisc.specs.declared.command.WordsFault.{WordsFault}
-use Rattle.uadisc.specs.declared.command.WordsFault.TheVariants as words
 use Rattle.uadisc.specs.declared.input.InputFault.{InputFault}
 use Rattle.uadisc.specs.declared.input.InputFault.TheVariants as input
 use Rattle.uadisc.specs.declared.script.ScriptFault.{ScriptFault}
@@ -26,10 +24,6 @@ status_of (Settings fault) = 1
 status_of (Words text) = 2
 status_of File = 3
 status_of NoMemory = 4
-
-abbrev pub stop_of_words : WordsFault → Stop
-stop_of_words (words.Refused text) = Words text
-stop_of_words words.NoMemory = NoMemory
 
 abbrev pub stop_of_input : InputFault → Stop
 stop_of_input input.Failed = File

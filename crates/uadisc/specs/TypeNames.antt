@@ -1,5 +1,6 @@
 -- The names of the built-in types.
-use Rattle.std.specs.Prelude.{ℕ, List, codes}
+use Rattle.std.specs.Prelude.{◌≡◌, ℕ, List, [], ◌∷◌, map, codes}
+use Rattle.std.specs.Borrow.{Bor}
 use Rattle.uadisc.specs.declared.type_name.TypeName.{TypeName}
 use Rattle.uadisc.specs.declared.type_name.TypeName.TheVariants.{Boolean, SByte, Byte, Int16, UInt16, Int32, UInt32, Int64, UInt64, Float, Double, String, DateTime, Guid, ByteString, XmlElement, NodeId, ExpandedNodeId, StatusCode, QualifiedName, LocalizedText, ExtensionObject, DataValue, Variant, DiagnosticInfo}
 
@@ -29,3 +30,15 @@ name_of ExtensionObject = codes "ExtensionObject"
 name_of DataValue = codes "DataValue"
 name_of Variant = codes "Variant"
 name_of DiagnosticInfo = codes "DiagnosticInfo"
+
+-- in the order of their numbers
+abbrev pub types : List TypeName
+types = Boolean ∷ SByte ∷ Byte ∷ Int16 ∷ UInt16 ∷ Int32 ∷ UInt32 ∷ Int64 ∷ UInt64 ∷ Float ∷ Double ∷ String ∷ DateTime ∷ Guid ∷ ByteString ∷ XmlElement ∷ NodeId ∷ ExpandedNodeId ∷ StatusCode ∷ QualifiedName ∷ LocalizedText ∷ ExtensionObject ∷ DataValue ∷ Variant ∷ DiagnosticInfo ∷ []
+
+-- some texts, lent from where they stand in memory
+abbrev pub Lent : Type 0
+Lent = Bor (List (Bor (List ℕ)))
+
+-- these texts are the names of the types, wherever they stand
+abbrev pub AreTypeNames : Lent → Type 0
+AreTypeNames lent = map (λ s. s.now) lent.now ≡ map name_of types

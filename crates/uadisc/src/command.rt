@@ -4,15 +4,19 @@ ghost use Rattle.std.specs.Prelude.{◌≡◌, IfOk, IfErr, false, map};
 ghost use Rattle.clap.specs.Words.{app_of, rule_of, subcommand_rows_of, first_value, found_of};
 ghost use Rattle.clap.specs.declared.builder.command.Command.TheViews.{out-Command};
 ghost use Rattle.clap.specs.Values.{kind_of};
-ghost use Rattle.uadisc.specs.Command.{Asks, AsksFor, IsWordsFault, IsErrorFault, RefusedBy, IsAnswerOf, IsValueOf, IsShowOf, word_rule, answer_app, value_app, show_app, answer_or_value, uadisc};
+ghost use Rattle.uadisc.specs.Command.{Asks, AsksFor, IsWordsFault, IsErrorFault, RefusedBy, NothingBy, IsAnswerOf, IsValueOf, IsShowOf, word_rule, type_rule, answer_app, value_app, show_app, plain, answer_or_value, uadisc};
 
 use crate::settings::Source;
 use crate::show::Capture;
-use crate::type_name::{TypeName, of_name};
+use crate::type_name::{TypeName, names, of_name};
+use clap::builder::ValueParser;
 use clap::error::ErrorKind;
 use clap::{Arg, ArgAction, ArgMatches, Command as Parser};
 use hex::FromHexError;
 use std::alloc::{AllocError, Global};
+
+/// The version of the program, and the line by which its kit tells itself apart (`rt version`).
+const VERSION: &str = "0.1.0 (rattle-kit-13b logic dac8208d650f15bf)";
 
 /// What the words ask for.
 #[derive(Debug, Drop)]
@@ -28,118 +32,184 @@ pub enum Command {
 /// Why the words are no command.
 #[derive(Debug, Drop)]
 pub enum WordsFault {
+    /// They ask for help or for the version, and this is the text to print.
+    Shown(String),
     /// They are refused, and this is the text to print.
     Refused(String),
     /// A growth was refused.
     NoMemory,
 }
 
-fn required<'a>(alloc: Global, id: &'a str) -> Arg<'a>
+/// What is wrong with words that `clap` takes.
+#[derive(Clone, Copy, Debug)]
+enum WordFault {
+    /// A word is none that it may be.
+    Bad,
+    /// A growth was refused.
+    NoMemory,
+}
+
+/// A word that has to be there, with its name and its line in the help.
+fn required<'a>(alloc: Global, id: &'a str, name: &'a str, help: &'a str) -> Arg<'a>
     ensures local { result.global ≡ false }
     ensures rule { rule_of result ≡ word_rule id.entry.now }
 {
-    Arg::new(alloc, id).required(true).action(ArgAction::Set)
+    Arg::new(alloc, id)
+        .required(true)
+        .action(ArgAction::Set)
+        .value_name(name)
+        .help(help)
+}
+
+/// The word that has to be one of the names of the types.
+fn type_word<'a>(alloc: Global, names: &'a [&'a str]) -> Arg<'a>
+    ensures local { result.global ≡ false }
+    ensures rule { rule_of result ≡ type_rule names.entry }
+{
+    required(alloc, "type", "TYPE", "The built-in type of the value").value_parser(
+        ValueParser::Names(names),
+    )
 }
 
 fn answer_parser<'a>(alloc: Global) -> Result<Parser<'a>, AllocError>
     ensures app { IfOk result (λ c. app_of c ≡ answer_app) }
     ensures local { IfOk result (λ c. (out-Command c).has_globals ≡ false) }
 {
-    Parser::new(alloc, "answer").arg(required(alloc, "settings"))
+    Parser::new(alloc, "answer")
+        .about("Answers what a client sends, in hex on standard input, as a server does")
+        .arg(required(
+            alloc,
+            "settings",
+            "SETTINGS",
+            "A file of settings in TOML, or `default` for the built-in ones",
+        ))
 }
 
-fn value_parser<'a>(alloc: Global) -> Result<Parser<'a>, AllocError>
-    ensures app { IfOk result (λ c. app_of c ≡ value_app) }
+fn value_parser<'a>(alloc: Global, names: &'a [&'a str]) -> Result<Parser<'a>, AllocError>
+    ensures app { IfOk result (λ c. app_of c ≡ value_app names.entry) }
     ensures local { IfOk result (λ c. (out-Command c).has_globals ≡ false) }
 {
     Parser::new(alloc, "value")
-        .arg(required(alloc, "type"))?
-        .arg(required(alloc, "hex"))
+        .about("Reads one value of a built-in type from its bytes in OPC UA Binary")
+        .arg(type_word(alloc, names))?
+        .arg(required(alloc, "hex", "HEX", "The bytes in hex, two digits a byte"))
 }
 
 fn show_parser<'a>(alloc: Global) -> Result<Parser<'a>, AllocError>
     ensures app { IfOk result (λ c. app_of c ≡ show_app) }
     ensures local { IfOk result (λ c. (out-Command c).has_globals ≡ false) }
 {
-    Parser::new(alloc, "show").arg(required(alloc, "file"))
+    Parser::new(alloc, "show")
+        .about("Shows the frames in the raw bytes of one direction of a connection")
+        .arg(required(
+            alloc,
+            "file",
+            "FILE",
+            "A file of raw bytes, or `-` for standard input",
+        ))
 }
 
-fn answer_or_value_parser<'a>(alloc: Global) -> Result<Parser<'a>, AllocError>
-    ensures app { IfOk result (λ c. app_of c ≡ answer_or_value) }
+/// The program without its commands, with the texts of its help and its version.
+fn program<'a>(alloc: Global) -> Result<Parser<'a>, AllocError>
+    ensures app { IfOk result (λ c. app_of c ≡ plain) }
+    ensures local { IfOk result (λ c. (out-Command c).has_globals ≡ false) }
+{
+    let parser = Parser::new(alloc, "uadisc")
+        .about("OPC UA up to discovery, on channels without security")
+        .version(VERSION)
+        .no_binary_name(true)
+        .subcommand_required(true);
+    parser.bin_name("uadisc")
+}
+
+fn answer_or_value_parser<'a>(alloc: Global, names: &'a [&'a str]) -> Result<Parser<'a>, AllocError>
+    ensures app { IfOk result (λ c. app_of c ≡ answer_or_value names.entry) }
     ensures local { IfOk result (λ c. (out-Command c).has_globals ≡ false) }
 {
     let answer = answer_parser(alloc)?;
-    let value = value_parser(alloc)?;
-    Parser::new(alloc, "uadisc")
-        .no_binary_name(true)
-        .subcommand_required(true)
-        .subcommand(answer)?
-        .subcommand(value)
+    let value = value_parser(alloc, names)?;
+    program(alloc)?.subcommand(answer)?.subcommand(value)
 }
 
-fn parser<'a>(alloc: Global) -> Result<Parser<'a>, AllocError>
-    ensures app { IfOk result (λ c. app_of c ≡ uadisc) }
+fn parser<'a>(alloc: Global, names: &'a [&'a str]) -> Result<Parser<'a>, AllocError>
+    ensures app { IfOk result (λ c. app_of c ≡ uadisc names.entry) }
     ensures local { IfOk result (λ c. (out-Command c).has_globals ≡ false) }
 {
     let show = show_parser(alloc)?;
-    answer_or_value_parser(alloc)?.subcommand(show)
+    answer_or_value_parser(alloc, names)?.subcommand(show)
 }
 
 /// The command that the words are, which are those after the program's name.
 ///
-/// `Refused` has the text to print: that of `clap` where it refuses the words, or asks for its
-/// help, and `words` where it takes them and a word is none that it may be: a type that has no such
-/// name, or hex that is none. The settings are `default`, or else the path of a file; a capture is
-/// `-`, standard input, or else the path of a file. No file is read here. The call changes nothing.
+/// The settings are `default`, or else the path of a file; a capture is `-`, standard input, or else
+/// the path of a file. No file is read here. The call changes nothing.
+///
+/// # Errors
+///
+/// `Shown` where the words ask for help or for the version, with its text. `Refused` where they are
+/// no command, with the text to print: that of `clap` where it refuses them, and `words` where it
+/// takes them and the hex is none. `NoMemory` where a growth was refused.
 pub fn command_of(alloc: Global, words: &[&str]) -> Result<Command, WordsFault>
     ensures asked { IfOk result (AsksFor (map (λ w. w.now) words.entry.now)) }
     ensures refused { IfErr result (IsWordsFault (map (λ w. w.now) words.entry.now)) }
 {
-    let Ok(parser) = parser(alloc) else {
+    let Ok(parser) = parser(alloc, names()) else {
         return Err(WordsFault::NoMemory);
     };
     match parser.try_get_matches_from(words) {
-        Ok(matches) => command_in(alloc, &matches),
-        Err(error) => Err(refused(alloc, error)),
+        Ok(matches) => asked(alloc, &matches),
+        Err(error) => Err(fault_of(alloc, &error)),
     }
 }
 
-fn refused(alloc: Global, error: clap::Error) -> WordsFault
-    ensures { IsErrorFault (kind_of error) result }
+/// The fault that an answer of `clap` is, which is no command.
+fn fault_of(alloc: Global, error: &clap::Error) -> WordsFault
+    ensures { IsErrorFault (kind_of error.now) result }
 {
-    if error.kind() == ErrorKind::OutOfMemory {
+    let kind = error.kind();
+    if kind == ErrorKind::OutOfMemory {
         return WordsFault::NoMemory;
     }
-    match error.to_string(alloc) {
-        Ok(text) => WordsFault::Refused(text),
-        Err(_) => WordsFault::NoMemory,
+    let Ok(text) = error.to_string(alloc) else {
+        return WordsFault::NoMemory;
+    };
+    match kind {
+        ErrorKind::DisplayHelp | ErrorKind::DisplayVersion => WordsFault::Shown(text),
+        _ => WordsFault::Refused(text),
     }
 }
 
-/// The fault of words that `clap` takes.
-fn bad_word(alloc: Global) -> WordsFault {
-    match String::from_str(alloc, "words\n") {
-        Ok(text) => WordsFault::Refused(text),
-        Err(_) => WordsFault::NoMemory,
+/// The command that the matches name.
+fn asked(alloc: Global, matches: &ArgMatches) -> Result<Command, WordsFault>
+    ensures asked { IfOk result (Asks (subcommand_rows_of matches.now)) }
+    ensures refused { IfErr result (NothingBy (Asks (subcommand_rows_of matches.now))) }
+{
+    match command_in(alloc, matches) {
+        Ok(command) => Ok(command),
+        Err(WordFault::NoMemory) => Err(WordsFault::NoMemory),
+        Err(WordFault::Bad) => match String::from_str(alloc, "words\n") {
+            Ok(text) => Err(WordsFault::Refused(text)),
+            Err(_) => Err(WordsFault::NoMemory),
+        },
     }
 }
 
-fn command_in(alloc: Global, matches: &ArgMatches) -> Result<Command, WordsFault>
+fn command_in(alloc: Global, matches: &ArgMatches) -> Result<Command, WordFault>
     ensures asked { IfOk result (Asks (subcommand_rows_of matches.now)) }
     ensures refused { IfErr result (RefusedBy (Asks (subcommand_rows_of matches.now))) }
 {
     let Some((name, inner)) = matches.subcommand() else {
-        return Err(bad_word(alloc));
+        return Err(WordFault::Bad);
     };
     match name {
         "answer" => answer_in(alloc, inner),
         "value" => value_in(alloc, inner),
         "show" => show_in(alloc, inner),
-        _ => Err(bad_word(alloc)),
+        _ => Err(WordFault::Bad),
     }
 }
 
-fn answer_in(alloc: Global, matches: &ArgMatches) -> Result<Command, WordsFault>
+fn answer_in(alloc: Global, matches: &ArgMatches) -> Result<Command, WordFault>
     ensures asked { IfOk result (IsAnswerOf (first_value (found_of matches.now))) }
     ensures refused { IfErr result (RefusedBy (IsAnswerOf (first_value (found_of matches.now)))) }
 {
@@ -147,33 +217,33 @@ fn answer_in(alloc: Global, matches: &ArgMatches) -> Result<Command, WordsFault>
         Some("default") => Ok(Command::Answer(Source::Default)),
         Some(path) => match String::from_str(alloc, path) {
             Ok(path) => Ok(Command::Answer(Source::File(path))),
-            Err(_) => Err(WordsFault::NoMemory),
+            Err(_) => Err(WordFault::NoMemory),
         },
-        None => Err(bad_word(alloc)),
+        None => Err(WordFault::Bad),
     }
 }
 
-fn value_in(alloc: Global, matches: &ArgMatches) -> Result<Command, WordsFault>
+fn value_in(alloc: Global, matches: &ArgMatches) -> Result<Command, WordFault>
     ensures asked { IfOk result (IsValueOf (first_value (found_of matches.now))) }
     ensures refused { IfErr result (RefusedBy (IsValueOf (first_value (found_of matches.now)))) }
 {
     let Some(name) = matches.get_str("type") else {
-        return Err(bad_word(alloc));
+        return Err(WordFault::Bad);
     };
     let Some(digits) = matches.get_str("hex") else {
-        return Err(bad_word(alloc));
+        return Err(WordFault::Bad);
     };
     let Some(kind) = of_name(name) else {
-        return Err(bad_word(alloc));
+        return Err(WordFault::Bad);
     };
     match hex::decode(alloc, digits) {
         Ok(bytes) => Ok(Command::Value { kind, bytes }),
-        Err(FromHexError::OutOfMemory) => Err(WordsFault::NoMemory),
-        Err(_) => Err(bad_word(alloc)),
+        Err(FromHexError::OutOfMemory) => Err(WordFault::NoMemory),
+        Err(_) => Err(WordFault::Bad),
     }
 }
 
-fn show_in(alloc: Global, matches: &ArgMatches) -> Result<Command, WordsFault>
+fn show_in(alloc: Global, matches: &ArgMatches) -> Result<Command, WordFault>
     ensures asked { IfOk result (IsShowOf (first_value (found_of matches.now))) }
     ensures refused { IfErr result (RefusedBy (IsShowOf (first_value (found_of matches.now)))) }
 {
@@ -181,8 +251,8 @@ fn show_in(alloc: Global, matches: &ArgMatches) -> Result<Command, WordsFault>
         Some("-") => Ok(Command::Show(Capture::Input)),
         Some(path) => match String::from_str(alloc, path) {
             Ok(path) => Ok(Command::Show(Capture::File(path))),
-            Err(_) => Err(WordsFault::NoMemory),
+            Err(_) => Err(WordFault::NoMemory),
         },
-        None => Err(bad_word(alloc)),
+        None => Err(WordFault::Bad),
     }
 }

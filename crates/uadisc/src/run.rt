@@ -2,13 +2,13 @@
 
 ghost use Rattle.std.specs.Prelude.{◌≡◌, map, IfOk, IfErr, IfSome, OnOk};
 ghost use Rattle.std.specs.Io.KnownBytes.{Appends};
-ghost use Rattle.uadisc.specs.Run.{Done, IsStop, Runs};
+ghost use Rattle.uadisc.specs.Run.{IsDone, IsStop, Runs};
 ghost use Rattle.uadisc.specs.Stop.{status_of, stop_text, IsQuiet};
 
 use crate::answer::answer;
-use crate::command::{Command, command_of};
+use crate::command::{Command, WordsFault, command_of};
 use crate::show::show;
-use crate::stop::Stop;
+use crate::stop::{Stop, print};
 use crate::value::value;
 use std::io;
 use std::io::{Read, Write};
@@ -19,7 +19,8 @@ mod tests;
 
 /// Runs the command that the words are, which are those after the program's name, and gives the
 /// exit status: 0 done, 1 settings or input refused, or a capture with a frame that is refused or cut, 2 words refused, 3 a failed read or write, 4
-/// want of memory. What stopped the command is told on `errors`, where a failed write is passed over.
+/// want of memory. Help and the version are printed on `output`, with status 0. What stopped the
+/// command is told on `errors`, where a failed write is passed over.
 pub fn run<R, I, O, E>(rt: &R, words: &[&str], input: &mut I, output: &mut O, errors: &mut E) -> u8
 where
     R: Files + AllocGlobal,
@@ -49,6 +50,15 @@ fn tell<E: Write>(stop: &Stop, errors: &mut E) -> io::Result<()>
     write!(errors, "{stop}")
 }
 
+/// Prints the text that the words ask for.
+fn shown<O: Write>(text: &str, output: &mut O) -> Result<u8, Stop>
+    ensures ok { IfOk result (λ status. (status ≡ 0) × Appends (O.contents output.old) (O.contents output.new) text.now) }
+    ensures err { IfErr result (λ e. e ≡ Stop.File) }
+{
+    print(output, text)?;
+    Ok(0)
+}
+
 /// Does what the words ask for.
 fn done<R: Files + AllocGlobal, I: Read, O: Write>(
     rt: &R,
@@ -56,11 +66,16 @@ fn done<R: Files + AllocGlobal, I: Read, O: Write>(
     input: &mut I,
     output: &mut O,
 ) -> Result<u8, Stop>
-    ensures done { IfOk result (Done (map (λ w. w.now) words.entry.now) (I.remaining input.old) (O.contents output.old) (O.contents output.new)) }
+    ensures done { IfOk result (IsDone (map (λ w. w.now) words.entry.now) (I.remaining input.old) (O.contents output.old) (O.contents output.new)) }
     ensures err { IfErr result (IsStop (map (λ w. w.now) words.entry.now) (I.remaining input.old)) }
     ensures quiet { IfErr result (λ stop. IsQuiet stop (O.contents output.old) (O.contents output.new)) }
 {
-    let command = command_of(rt.alloc(), words)?;
+    let command = match command_of(rt.alloc(), words) {
+        Ok(command) => command,
+        Err(WordsFault::Shown(text)) => return shown(text.as_str(), output),
+        Err(WordsFault::Refused(text)) => return Err(Stop::Words(text)),
+        Err(WordsFault::NoMemory) => return Err(Stop::NoMemory),
+    };
     match command {
         Command::Answer(source) => answer(rt, &source, input, output),
         Command::Value { kind, bytes } => value(rt.alloc(), kind, bytes.as_slice(), output),

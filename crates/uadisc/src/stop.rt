@@ -2,10 +2,9 @@
 
 ghost use Rattle.std.specs.Prelude.{◌≡◌, OnOk, IfErr};
 ghost use Rattle.std.specs.Io.KnownBytes.{Appends};
-ghost use Rattle.uadisc.specs.Stop.{status_of, stop_text, stop_of_words, stop_of_settings, stop_of_input, stop_of_script};
+ghost use Rattle.uadisc.specs.Stop.{status_of, stop_text, stop_of_settings, stop_of_input, stop_of_script};
 ghost use Rattle.uadisc.specs.declared.stop.Stop.TheVariants.{NoMemory as OutOfMemory};
 
-use crate::command::WordsFault;
 use crate::input::InputFault;
 use crate::script::ScriptFault;
 use std::alloc::{AllocError, AllocFailed};
@@ -69,17 +68,6 @@ impl<T: Drop> From<AllocFailed<T>> for Stop {
 
     fn from(_e: AllocFailed<T>) -> Stop {
         Stop::NoMemory
-    }
-}
-
-impl From<WordsFault> for Stop {
-    ghost from_gives = { λ fault e. e ≡ stop_of_words fault };
-
-    fn from(fault: WordsFault) -> Stop {
-        match fault {
-            WordsFault::Refused(text) => Stop::Words(text),
-            WordsFault::NoMemory => Stop::NoMemory,
-        }
     }
 }
 

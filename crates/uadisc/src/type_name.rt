@@ -2,9 +2,9 @@
 
 ghost use Rattle.std.specs.Prelude.{◌≡◌, MatchOption};
 ghost use Rattle.uadisc.specs.declared.type_name.TypeName.{TypeName};
-ghost use Rattle.uadisc.specs.TypeNames.{name_of};
+ghost use Rattle.uadisc.specs.TypeNames.{name_of, AreTypeNames};
 
-/// A built-in type, by its name in OPC 10000-6 5.1.2.
+/// A built-in type, by its name in OPC 10000-6, 5.1.2.
 #[derive(Clone, Copy, Debug, PartialEq, Eq)]
 pub enum TypeName {
     Boolean,
@@ -65,6 +65,39 @@ pub fn name(kind: TypeName) -> &'static str
         TypeName::Variant => "Variant",
         TypeName::DiagnosticInfo => "DiagnosticInfo",
     }
+}
+
+/// The names of the types, in the order of their numbers.
+pub fn names<'a>() -> &'a [&'a str]
+    ensures { AreTypeNames result }
+{
+    &[
+        "Boolean",
+        "SByte",
+        "Byte",
+        "Int16",
+        "UInt16",
+        "Int32",
+        "UInt32",
+        "Int64",
+        "UInt64",
+        "Float",
+        "Double",
+        "String",
+        "DateTime",
+        "Guid",
+        "ByteString",
+        "XmlElement",
+        "NodeId",
+        "ExpandedNodeId",
+        "StatusCode",
+        "QualifiedName",
+        "LocalizedText",
+        "ExtensionObject",
+        "DataValue",
+        "Variant",
+        "DiagnosticInfo",
+    ]
 }
 
 /// The type that has this name, letter for letter, or none.

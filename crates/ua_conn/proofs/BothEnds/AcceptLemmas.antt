@@ -16,9 +16,10 @@ use Rattle.ua_conn.specs.client.Pending.{come_by}
 use Rattle.ua_conn.specs.client.Questions.{open_asked_body, close_asked_body}
 use Rattle.ua_conn.specs.client.Reading.{ClientReading, client_reading_of}
 use Rattle.ua_conn.specs.client.Sending.{Opening, Asking, Closing, greets, opens, act_says, commands_say, sent_by}
-use Rattle.ua_conn.specs.client.Asking.{InFlight, ask_fault}
+use Rattle.ua_conn.specs.client.Asking.{ask_fault}
 use Rattle.ua_conn.specs.Story.{Setup, World}
 use Rattle.ua_conn.specs.BothEnds.{IsSetup}
+use Rattle.ua_conn.proofs.ServerEnd.ReadyLemmas.{newest_append}
 use Rattle.ua_conn.proofs.ClientEnd.AcceptedLemmas.{accepted_token, over_not, ask_fits}
 use Rattle.ua_conn.proofs.ClientEnd.CountLemmas.{tokens_left, ids_left}
 use Rattle.ua_conn.proofs.ClientEnd.PlaceLemmas.{frames_within}
@@ -26,7 +27,7 @@ use Rattle.ua_conn.proofs.ClientEnd.ReadingLemmas.{reads_same}
 use Rattle.ua_conn.proofs.BothEnds.CommandAddsLemmas.{ask_adds, renew_adds, close_adds}
 use Rattle.ua_conn.proofs.BothEnds.CommandStepLemmas.{Adds, core_step, reaches}
 use Rattle.ua_conn.proofs.BothEnds.FaithfulLemmas.{accepted_acked}
-use Rattle.ua_conn.proofs.BothEnds.FrameListLemmas.{newest_append, all_back}
+use Rattle.ua_conn.proofs.BothEnds.FrameListLemmas.{all_back}
 use Rattle.ua_conn.proofs.BothEnds.HoldLemmas.{ids_of, Fits}
 use Rattle.ua_conn.proofs.BothEnds.InvariantForms.{Core}
 use Rattle.ua_conn.proofs.BothEnds.OnTheWayLemmas.{past_of, Accepts}
@@ -49,8 +50,8 @@ pub record Ready (s : Setup) (w : World) : Type 0 where
   pub token : newest_id (client_known (here_of s w)).tokens ≡ come s w
   pub ack : (client_known (here_of s w)).ack ≡ Some (agreed s.site (hello_by s.asker)).ack
 
-pub ready : (flight : InFlight) (s : Setup) → IsSetup s → (w : World) → Base s w → (act : Act) → ask_fault flight s.asker w.cmds w.down act ≡ None → Core s w.cmds (come s w) (sends s w) w.up → Ready s w
-ready flight s h w i act e core =
+pub ready : (s : Setup) → IsSetup s → (w : World) → Base s w → (act : Act) → ask_fault s.asker w.cmds w.down act ≡ None → Core s w.cmds (come s w) (sends s w) w.up → Ready s w
+ready s h w i act e core =
     let a = s.asker in
     let st = standing_of s h w i in
     let site = s.site in
@@ -59,9 +60,9 @@ ready flight s h w i act e core =
     let k = core y.ps (st.frames ++ y.tail) y.comes in
     let mine = past_of st.frames in
     let all : past_of (st.frames ++ y.tail) ≡ newest_first y.tail mine = newest_append st.frames y.tail [] in
-    let some = accepted_token flight a w.cmds w.down act e in
+    let some = accepted_token a w.cmds w.down act e in
     let some_mine : 1 ≤ length (granted_in mine) = subst (λ past. 1 ≤ length (granted_in past)) st.is some in
-    let acked = accepted_acked flight a w.cmds w.down act e in
+    let acked = accepted_acked a w.cmds w.down act e in
     let fit = tokens_of s w i.asks in
     let heard = k.holds.hears_is in
     let channel : (client_known mine).channel ≡ site.channel =
@@ -93,9 +94,9 @@ IsAct (Ask request part) = request_message.IsValue request
 IsAct Renew = Unit {0}
 IsAct Close = Unit {0}
 
-adds : (flight : InFlight) (s : Setup) → IsSetup s → (w : World) → Base s w → (act : Act) → IsAct act → ask_fault flight s.asker w.cmds w.down act ≡ None → Ready s w
+adds : (s : Setup) → IsSetup s → (w : World) → Base s w → (act : Act) → IsAct act → ask_fault s.asker w.cmds w.down act ≡ None → Ready s w
     → Adds s w.cmds (given w act) (come s w) (act_says s.asker (next_id w.cmds) (moment_of w.clock) (client_known (come_by (length w.down) (here_of s w))) act)
-adds flight s h w i act is e r = by act is e
+adds s h w i act is e r = by act is e
   where
     now : ℕ
     now = moment_of w.clock
@@ -112,9 +113,9 @@ adds flight s h w i act is e r = by act is e
     token : newest_id k.tokens ≡ come s w
     token = ap (λ past. newest_id (client_known past).tokens) r.view ∙ r.token
 
-    by : (act : Act) → IsAct act → ask_fault flight s.asker w.cmds w.down act ≡ None → Adds s w.cmds (given w act) (come s w) (act_says s.asker id now k act)
+    by : (act : Act) → IsAct act → ask_fault s.asker w.cmds w.down act ≡ None → Adds s w.cmds (given w act) (come s w) (act_says s.asker id now k act)
     by (Ask request part) is e =
-        let f = ask_fits flight s.asker w.cmds w.down request part (agreed s.site (hello_by s.asker)).ack e r.ack in
+        let f = ask_fits s.asker w.cmds w.down request part (agreed s.site (hello_by s.asker)).ack e r.ack in
         let limits = s.site.settings.limits in
         let bounds = h.site.settings.bounds.limits in
         let fits : Fits s w.cmds request part = record {
@@ -128,27 +129,27 @@ adds flight s h w i act is e r = by act is e
         subst (λ ms. Adds s w.cmds (given w (Ask request part)) (come s w) ms) (λ j. map (Asking (sym channel j) (sym token j)) (fill id (canon_request request) part))
         (ask_adds s w.cmds request part now (length w.down) (come s w) h fits r.some r.low r.high r.short)
     by Renew is e =
-        let left = ids_left flight s.asker w.cmds w.down Renew e in
+        let left = ids_left s.asker w.cmds w.down Renew e in
         subst (λ ms. Adds s w.cmds (given w Renew) (come s w) ms) (λ j. Opening (sym channel j) id (open_asked_body now id 1 s.asker.config.lifetime) ∷ [])
         (renew_adds s w.cmds now (length w.down) (come s w) h (omega (arith, r.some, r.low)) (omega (arith, tokens_left w.cmds left)) (omega (arith, left)) i.timely.clock)
     by Close is e =
-        let left = ids_left flight s.asker w.cmds w.down Close e in
+        let left = ids_left s.asker w.cmds w.down Close e in
         subst (λ ms. Adds s w.cmds (given w Close) (come s w) ms) (λ j. Closing (sym channel j) (sym token j) id (close_asked_body now id) ∷ [])
         (close_adds s w.cmds now (length w.down) (come s w) h r.some r.low r.high r.short (omega (arith, left)) i.timely.clock)
 
 -- One more command, where the server refused nothing.
-pub core_told : (flight : InFlight) (s : Setup) → IsSetup s → (w : World) → Base s w → (act : Act) → IsAct act → ask_fault flight s.asker w.cmds w.down act ≡ None → first_fault s.site w.up ≡ None
+pub core_told : (s : Setup) → IsSetup s → (w : World) → Base s w → (act : Act) → IsAct act → ask_fault s.asker w.cmds w.down act ≡ None → first_fault s.site w.up ≡ None
     → Core s w.cmds (come s w) (sends s w) w.up
     → (let cmds = given w act ∷ w.cmds in let past = (client_reading_of s.asker cmds w.down).past in Core s cmds (length (granted_in past)) (sent_by s.asker cmds past) w.up)
-core_told flight s h w i act is e calm core =
+core_told s h w i act is e calm core =
     let a = s.asker in
     let c = given w act in
     let cmds = c ∷ w.cmds in
     let past = here_of s w in
-    let r = ready flight s h w i act e core in
+    let r = ready s h w i act e core in
     let ms = act_says a (next_id w.cmds) (moment_of w.clock) (client_known (come_by (length w.down) past)) act in
     let same : client_reading_of a cmds w.down ≡ client_reading_of a w.cmds w.down = reads_same a c w.cmds w.down (frames_within w.down) in
     let all : sends s w ++ ms ≡ sent_by a cmds past =
     append_assoc (greets a past) (opens a past ++ commands_say a w.cmds past) ms ∙ ap (λ l. greets a past ++ l) (append_assoc (opens a past) (commands_say a w.cmds past) ms) in
-    let step = core_step s w.cmds c (come s w) (sends s w) ms w.up (up_are s h w i) (λ ps rs x. reaches s (sends s w) w.up w.down ps rs calm i.flow.down x) (adds flight s h w i act is e r) core in
+    let step = core_step s w.cmds c (come s w) (sends s w) ms w.up (up_are s h w i) (λ ps rs x. reaches s (sends s w) w.up w.down ps rs calm i.flow.down x) (adds s h w i act is e r) core in
     subst (λ (R : ClientReading). Core s cmds (length (granted_in R.past)) (sent_by a cmds R.past) w.up) (sym same) (subst (λ xs. Core s cmds (come s w) xs w.up) all step)

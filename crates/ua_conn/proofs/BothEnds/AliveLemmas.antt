@@ -6,7 +6,7 @@ use Rattle.std.specs.List.{find}
 use Rattle.std.proofs.lemmas.List.{append_cancel_left, map-append}
 use Rattle.ua_frame.specs.Streams.{TimedByte, plain, rest_of}
 use Rattle.ua_frame.specs.Layout.{Frame, frames_of, kind_of, flag_of}
-use Rattle.ua_frame.specs.Rows.{or_else}
+use Rattle.ua_frame.specs.Rows.{or_else, first_row}
 use Rattle.ua_frame.specs.HeaderRows.{header_fault}
 use Rattle.ua_frame.specs.Beginnings.{IsPart, NextPasses, rest_passes}
 use Rattle.ua_frame.specs.declared.kind.Kind.{Kind}
@@ -23,16 +23,18 @@ use Rattle.ua_conn.specs.client.Asker.{Asker}
 use Rattle.ua_conn.specs.client.Commands.{Commands}
 use Rattle.ua_conn.specs.client.Past.{ClientKnown, client_known, granted_in}
 use Rattle.ua_conn.specs.client.Pending.{bytes_in, due_at, wanted_at}
-use Rattle.ua_conn.specs.client.Faults.{first_of, or_fault, greatest_answer, client_rows, client_fault_by, client_fault_in_rest, token_usable}
+use Rattle.ua_conn.specs.client.Faults.{greatest_answer, client_rows, client_fault_by, client_fault_in_rest, token_usable}
 use Rattle.ua_conn.specs.client.Reading.{ClientReading, client_fault_at, client_reading, client_reading_of}
 use Rattle.ua_conn.specs.BothEnds.{AllAfter, IsLive}
 use Rattle.ua_conn.specs.declared.client.fault.ClientFault.{ClientFault}
 use Rattle.ua_conn.specs.declared.client.fault.ClientFault.TheVariants.{Broken}
 use Rattle.ua_conn.specs.declared.outcome.End.TheVariants.{Closed, Refused}
+use Rattle.ua_conn.proofs.ClientEnd.EffectLemmas.{unbroken}
+use Rattle.ua_conn.proofs.TableLemmas.{or_front}
 use Rattle.ua_conn.proofs.BothEnds.BaseLemmas.{untokened}
 use Rattle.ua_conn.proofs.BothEnds.FrameListLemmas.{all_front, all_back, all_both}
 use Rattle.ua_conn.proofs.BothEnds.OnTheWayLemmas.{Are, past_of, Sound, Accepts}
-use Rattle.ua_conn.proofs.BothEnds.TokenLemmas.{fault_is}
+use Rattle.ua_conn.proofs.BothEnds.ServerWalkLemmas.{fault_is}
 use Rattle.ua_conn.proofs.BothEnds.WayLemmas.{Passes}
 
 -- ---- a token that is known
@@ -95,7 +97,7 @@ client_untokened_rows a k due wanted b c f flag (Some kinds.Close) h = absurd (c
 client_untokened : (a : Asker) (k : ClientKnown) (due : Option ℕ) (wanted : Option Request) (b c : Bool) (f : Frame) → has_token (kind_of f.bytes) ≡ false → client_fault_by a k due wanted b f ≡ client_fault_by a k due wanted c f
 unfolding client_fault_by
 client_untokened a k due wanted b c f h =
-    ap (λ rows. or_fault (option_map Broken (header_fault (greatest_answer k.ack) f.bytes)) (first_of rows)) (client_untokened_rows a k due wanted b c f (flag_of f.bytes) (kind_of f.bytes) h)
+    ap (λ rows. or_else (option_map Broken (header_fault (greatest_answer k.ack) f.bytes)) (first_row rows)) (client_untokened_rows a k due wanted b c f (flag_of f.bytes) (kind_of f.bytes) h)
 
 pub accepts_alive : (a : Asker) (cmds : Commands) (past : Past) (f : Frame) → Accepts a cmds past f → IsLive (granted_in past) f → Passes a cmds past f
 accepts_alive a cmds past f h live = by (has_token (kind_of f.bytes)) refl
@@ -121,21 +123,13 @@ accepts_alive a cmds past f h live = by (has_token (kind_of f.bytes)) refl
 
 -- ---- the header of a frame in which no row holds
 
-or_front : (x y : Option ℕ) → or_else x y ≡ None → x ≡ None
-or_front None y h = refl
-or_front (Some n) y h = absurd (cc h)
-
 sound_header : (site : Site) (past : Past) (f : Frame) → Sound site past f → header_fault (greatest_frame (known site past).limits) f.bytes ≡ None
 unfolding fault_by
 sound_header site past f h = or_front (header_fault (greatest_frame (known site past).limits) f.bytes) _ h
 
-fault_front : (x : Option ℕ) (y : Option ClientFault) → or_fault (option_map Broken x) y ≡ None → x ≡ None
-fault_front None y h = refl
-fault_front (Some n) y h = absurd (cc h)
-
 accepts_header : (a : Asker) (cmds : Commands) (past : Past) (f : Frame) → Accepts a cmds past f → header_fault (greatest_answer (client_known past).ack) f.bytes ≡ None
 unfolding client_fault_by
-accepts_header a cmds past f h = fault_front (header_fault (greatest_answer (client_known past).ack) f.bytes) _ h
+accepts_header a cmds past f h = unbroken (header_fault (greatest_answer (client_known past).ack) f.bytes) (or_front (option_map Broken (header_fault (greatest_answer (client_known past).ack) f.bytes)) _ h)
 
 -- ---- a stream
 

@@ -8,7 +8,6 @@ use Rattle.ua_conn.specs.server.Feeding.{replies_of}
 use Rattle.ua_conn.specs.server.Replies.{replies, requests, reading_of}
 use Rattle.ua_conn.specs.client.Commands.{Asked, asked_in}
 use Rattle.ua_conn.specs.client.Reading.{ClientReading, client_fault, answers, matched}
-use Rattle.ua_conn.specs.client.Asking.{InFlight}
 use Rattle.ua_conn.specs.Story.{Setup, World, final}
 use Rattle.ua_conn.specs.BothEnds.{IsSetup, Delivered, served_by, NoneUnanswered}
 use Rattle.ua_conn.specs.declared.client.fault.ClientFault.{ClientFault}
@@ -52,10 +51,10 @@ settled_all s w i none = by i.settles.settled
     by (inl same) = same
     by (inr fault) = absurd (let clash : None ≡ Some fault.0 = sym none ∙ fault.1 in cc clash)
 
-pub answered_law : (flight : InFlight) → NoneUnanswered flight
-answered_law flight s schedule h is live d =
-    let w = final flight s schedule in
-    let i = inv flight s h schedule is in
+pub answered_law : NoneUnanswered
+answered_law s schedule h is live d =
+    let w = final s schedule in
+    let i = inv s h schedule is in
     let site = s.site in
     let first = s.asker.first_sequence in
     let xs = sends s w in

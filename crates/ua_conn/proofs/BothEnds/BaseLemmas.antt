@@ -22,16 +22,15 @@ use Rattle.ua_conn.specs.client.Reading.{answers}
 use Rattle.ua_conn.specs.Story.{Setup}
 use Rattle.ua_conn.specs.BothEnds.{AllAfter, IsSetup, served_by}
 use Rattle.ua_conn.proofs.ServerEnd.KnownLemmas.{known_step}
-use Rattle.ua_conn.proofs.BothEnds.TokenLemmas.{fault_is}
+use Rattle.ua_conn.proofs.BothEnds.ServerWalkLemmas.{fault_is}
 use Rattle.ua_conn.proofs.BothEnds.OnTheWayLemmas.{Sound, Accepts}
 use Rattle.ua_conn.proofs.BothEnds.SpokenLemmas.{Acknowledges, Greets, spell, is_read}
 use Rattle.ua_conn.proofs.BothEnds.SpokenAnswerLemmas.{agreed_value}
-use Rattle.ua_conn.proofs.BothEnds.SpokenRequestLemmas.{Goes, asks_all, says_all, at}
+use Rattle.ua_conn.proofs.BothEnds.SpokenRequestLemmas.{Goes, asks_all, says_all, at, replies_go}
 use Rattle.ua_conn.proofs.BothEnds.SpokenTurnLemmas.{nothing_known, hello_taken}
 use Rattle.ua_conn.proofs.BothEnds.SpokenSessionLemmas.{hello_value}
 use Rattle.ua_conn.proofs.BothEnds.SpokenTableLemmas.{hears}
 use Rattle.ua_conn.proofs.BothEnds.ClientWalkLemmas.{Got}
-use Rattle.ua_conn.proofs.BothEnds.SpokenStreamLemmas.{replies_go}
 use Rattle.ua_conn.proofs.BothEnds.OpeningKeepLemmas.{client_of}
 use Rattle.ua_conn.proofs.BothEnds.OpeningWalkLemmas.{acknowledge_got}
 

@@ -1,12 +1,11 @@
 -- What one call of an end did, from what it ensures.
-use Rattle.std.proofs.Common.{◌≡◌, Bool, true, false, List, ◌++◌, Option, Some, None, Result, Ok, Err, refl, sym, ap, subst, ◌∙◌}
+use Rattle.std.proofs.Common.{◌≡◌, Bool, true, false, List, ◌++◌, Option, Some, Result, Ok, Err, refl, sym, ap, subst}
 use Rattle.std.specs.Prelude.{◌↔◌, ℕ, if◌then◌else◌, is_ok, IsErrOf, OnOk}
 use Rattle.ua_frame.specs.Streams.{Piece}
 use Rattle.ua_service.specs.declared.request.Request.{Request}
 use Rattle.ua_conn.specs.server.Feeding.{Shown, FeedsAll}
-use Rattle.ua_conn.specs.client.Asking.{in_flight}
 use Rattle.ua_conn.specs.client.Feeding.{ClientShown, HandsAll, FailsAll}
-use Rattle.ua_conn.specs.Between.{is_said, Meets, Served, Fed, Heard, Answered, Refused, Left}
+use Rattle.ua_conn.specs.Between.{is_said, Meets, Served, Fed, Heard, Answered, Refused}
 use Rattle.ua_conn.specs.declared.outcome.End.{End}
 use Rattle.ua_conn.specs.declared.client.answer.Answer.{Answer}
 use Rattle.ua_conn.specs.declared.client.fault.ClientFault.{ClientFault}
@@ -34,17 +33,14 @@ serves_piece fed ended (Err f) old new x down down' given had has end end' feeds
 
 -- a client's answers to a piece, put behind the earlier ones
 pub hears_piece : {T E F : Type 0} (fed : T) (ended : E) (r : Result (Unit {0}) F) (old new : ClientShown) (x : Piece) (given had has : List Answer) (fault : Option ClientFault) →
-    HandsAll in_flight old x new given → (IsErrOf {T = T} {E = E} (Ok fed) ended ↔ (old.failed ≡ true)) → has ≡ (if is_ok r then had ++ given else had) →
+    HandsAll old x new given → (IsErrOf {T = T} {E = E} (Ok fed) ended ↔ (old.failed ≡ true)) → has ≡ (if is_ok r then had ++ given else had) →
     OnOk r (Heard old new x had has fault fault)
 hears_piece fed ended (Ok u) old new x given had has fault hands e more = Answered given (alive fed ended old.failed e) hands more refl
 hears_piece fed ended (Err f) old new x given had has fault hands e more = tt
 
-said_is : (f g : ClientFault) → f ≡ g → is_said f ≡ true → is_said g ≡ true
-said_is f g e h = sym (ap is_said e) ∙ h
-
 -- a fault that the client newly met, and one that it had met before
 pub hears_fault : {T : Type 0} (f g : ClientFault) (old new : ClientShown) (x : Piece) (has : List Answer) (fault : Option ClientFault) → Meets f (Some g) →
-    (old.failed ≡ false → FailsAll in_flight old x new f) → (IsErrOf {T = T} (Err f) faults.Ended ↔ (old.failed ≡ true)) →
+    (old.failed ≡ false → FailsAll old x new f) → (IsErrOf {T = T} (Err f) faults.Ended ↔ (old.failed ≡ true)) →
     Heard old new x has has fault (Some g)
 hears_fault {T} f g old new x has fault met fails e = subst (λ (k : ClientFault). Heard old new x has has fault (Some k)) (sym met.0) (by old.failed refl)
   where
@@ -57,9 +53,3 @@ hears_fault {T} f g old new x has fault met fails e = subst (λ (k : ClientFault
     by : (b : Bool) → old.failed ≡ b → Heard old new x has has fault (Some f)
     by true is = absurd (cc (not_ended (e.1 is), met.1))
     by false is = Refused f is met.1 (fails is) refl refl
-
-pub hears_none : {T : Type 0} (f : ClientFault) (old new : ClientShown) (x : Piece) (has : List Answer) (fault : Option ClientFault) → Meets f None →
-    (IsErrOf {T = T} (Err f) faults.Ended ↔ (old.failed ≡ true)) → (old.failed ≡ true → new ≡ old) → Heard old new x has has fault fault
-hears_none {T} f old new x has fault met e stays =
-    let failed : old.failed ≡ true = e.0 (ap (λ (k : ClientFault). Err k) met) in
-    Left failed (stays failed) refl refl

@@ -5,7 +5,6 @@ use Rattle.ua_frame.specs.Streams.{Piece, TimedByte, at, moment_of}
 use Rattle.ua_conn.specs.client.Asker.{Asker}
 use Rattle.ua_conn.specs.client.Reading.{ClientReading, client_fault, matched, answers}
 use Rattle.ua_conn.specs.client.Sending.{sent_by, sent_all, client_bytes}
-use Rattle.ua_conn.specs.client.Asking.{in_flight}
 use Rattle.ua_conn.specs.client.Held.{Log, Came, stream_of, latest_of, fault_in, client_held}
 use Rattle.ua_conn.specs.client.Feeding.{ClientShown, HandsAll, FailsAll, FailsBy, Fails, SendsMore}
 use Rattle.ua_conn.specs.Story.{Setup, World, delivered, came_by, came, server_stream}
@@ -14,7 +13,7 @@ use Rattle.ua_conn.specs.declared.client.fault.ClientFault.{ClientFault}
 use Rattle.ua_conn.specs.declared.client.fault.ClientFault.TheVariants as faults
 use Rattle.ua_conn.specs.declared.client.answer.Answer.{Answer}
 use Rattle.ua_conn.proofs.ClientEnd.StopLemmas.{client_reading_stays}
-use Rattle.ua_conn.proofs.BothEnds.BetweenServerLemmas.{next_of, next_length, delivered_length}
+use Rattle.ua_conn.proofs.BothEnds.BetweenServerLemmas.{next_of, next_length, delivered_length, next_piece, piece_is}
 
 abbrev pub heard_run : Run → ClientShown → ℕ → List Answer → List ℕ → Option ClientFault → Run
 heard_run r client down_to answers up fault = record r { client = client; down_to = down_to; answers = answers; up = up; client_fault = fault }
@@ -27,7 +26,7 @@ fails_of a log x old new faults.Ended h k = absurd k
 
 pub heard_between : (s : Setup) (w : World) (r : Run) (n down_to : ℕ) (client client' : ClientShown) (answers' : List Answer) (up' : List ℕ) (fault' : Option ClientFault) → Between s w r →
     down_to ≡ r.down_to + length (next_of r.down_to n r.down) →
-    Heard r.client client (record { moment = moment_of r.clock; bytes = next_of r.down_to n r.down }) r.answers answers' r.client_fault fault' →
+    Heard r.client client (next_piece r.clock r.down_to n r.down) r.answers answers' r.client_fault fault' →
     client' ≡ record client { output = [] } → up' ≡ r.up ++ client.output →
     Between s (came s w (delivered w.clock w.down n (server_stream s w))) (heard_run r client' down_to answers' up' fault')
 heard_between s w r n down_to client client' answers' up' fault' b more heard emptied sent = by heard
@@ -38,14 +37,11 @@ heard_between s w r n down_to client client' answers' up' fault' b more heard em
     now : ℕ
     now = moment_of w.clock
 
-    x : Piece
-    x = record { moment = moment_of r.clock; bytes = next_of r.down_to n r.down }
-
     y : Piece
-    y = record { moment = now; bytes = next_of (length w.down) n (server_stream s w) }
+    y = next_piece w.clock (length w.down) n (server_stream s w)
 
-    same : x ≡ y
-    same = λ i. record { moment = moment_of (b.clock i); bytes = next_of (b.down_to i) n (b.down_is i) }
+    same : next_piece r.clock r.down_to n r.down ≡ y
+    same = λ i. next_piece (b.clock i) (b.down_to i) n (b.down_is i)
 
     down : List TimedByte
     down = delivered w.clock w.down n (server_stream s w)
@@ -85,7 +81,7 @@ heard_between s w r n down_to client client' answers' up' fault' b more heard em
         let out : client.output ≡ sends.added = sends.out_is ∙ ap (λ k. k ++ sends.added) b.all_sent in
         sent ∙ (λ i. b.up_is i ++ out i) ∙ (λ i. client_bytes a (sym l.commands i) (sym l.stream i) ++ sends.added) ∙ sym sends.sent ∙ (λ i. client_bytes a (l.commands i) (stream_is log l i))
 
-    when_answered : (given : List Answer) → r.client.failed ≡ false → HandsAll in_flight r.client y client given → answers' ≡ r.answers ++ given → fault' ≡ r.client_fault → ClientAt a now w.cmds w.down w.settled r.client r.client_fault → Goal
+    when_answered : (given : List Answer) → r.client.failed ≡ false → HandsAll r.client y client given → answers' ≡ r.answers ++ given → fault' ≡ r.client_fault → ClientAt a now w.cmds w.down w.settled r.client r.client_fault → Goal
     when_answered given alive hands has kept (Failed f failed is shows) = absurd (true≢false (sym failed ∙ alive))
     when_answered given alive hands has kept (Lives log l none) =
         let h = hands a log l.lived in
@@ -109,7 +105,7 @@ heard_between s w r n down_to client client' answers' up' fault' b more heard em
         (has ∙ ap (λ k. k ++ given) (b.answers_are ∙ (λ i. matched a (sym l.commands i) ((l.settled_is ∙ sym l.stream) i))) ∙ sym h.answered ∙ (λ i. matched a (l.commands i) (stream_is log l i)))
         (bytes_are log l h.sends)
 
-    when_refused : (f : ClientFault) → r.client.failed ≡ false → is_said f ≡ true → FailsAll in_flight r.client y client f → answers' ≡ r.answers → fault' ≡ Some f → ClientAt a now w.cmds w.down w.settled r.client r.client_fault → Goal
+    when_refused : (f : ClientFault) → r.client.failed ≡ false → is_said f ≡ true → FailsAll r.client y client f → answers' ≡ r.answers → fault' ≡ Some f → ClientAt a now w.cmds w.down w.settled r.client r.client_fault → Goal
     when_refused f alive said fails has shows (Failed g failed is before) = absurd (true≢false (sym failed ∙ alive))
     when_refused f alive said fails has shows (Lives log l none) =
         let h = fails_of a log y r.client client f said (fails a log l.lived) in
@@ -129,9 +125,9 @@ heard_between s w r n down_to client client' answers' up' fault' b more heard em
         (has ∙ b.answers_are)
         (sent ∙ (λ i. b.up_is i ++ (ap (λ (k : ClientShown). k.output) client_is ∙ b.all_sent) i) ∙ append-nil _ ∙ (λ i. sent_all a.first_sequence 0 (sent_by a w.cmds (sym stays i).past)))
 
-    by : Heard r.client client x r.answers answers' r.client_fault fault' → Goal
-    by (Answered given alive hands has kept) = when_answered given alive (subst (λ p. HandsAll in_flight r.client p client given) same hands) has kept b.client
-    by (Refused f alive said fails has shows) = when_refused f alive said (subst (λ p. FailsAll in_flight r.client p client f) same fails) has shows b.client
+    by : Heard r.client client (next_piece r.clock r.down_to n r.down) r.answers answers' r.client_fault fault' → Goal
+    by (Answered given alive hands has kept) = when_answered given alive (subst (λ p. HandsAll r.client p client given) same hands) has kept b.client
+    by (Refused f alive said fails has shows) = when_refused f alive said (subst (λ p. FailsAll r.client p client f) same fails) has shows b.client
     by (Left failed client_is has kept) = when_left failed client_is has kept b.client
 
 pub heard_step : (r : Run) (n down_to : ℕ) (z : ℤ) (bytes piece : List ℕ) (client client' : ClientShown) (answers' : List Answer) (up' : List ℕ) (fault' : Option ClientFault) → z ≡ r.clock →
@@ -140,12 +136,5 @@ pub heard_step : (r : Run) (n down_to : ℕ) (z : ℤ) (bytes piece : List ℕ) 
     client' ≡ record client { output = [] } → up' ≡ r.up ++ client.output →
     (s : Setup) (w : World) → Between s w r → Between s (came s w (delivered w.clock w.down n (server_stream s w))) (heard_run r client' down_to answers' up' fault')
 heard_step r n down_to z bytes piece client client' answers' up' fault' same all small is more heard emptied sent s w b =
-    let next : piece ≡ next_of r.down_to n r.down = is ∙ ap (next_of r.down_to n) all in
-    let len : length piece ≡ length (next_of r.down_to n r.down) = ap length next in
-    let within : r.down_to + length (next_of r.down_to n r.down) ≤ length r.down = next_length r.down_to n r.down b.down_within in
-    let whole : length bytes ≡ length r.down = ap length all in
-    let to : down_to ≡ r.down_to + length (next_of r.down_to n r.down) = omega (arith, more, len, within, whole, small) in
-    heard_between s w r n down_to client client' answers' up' fault' b to
-    (subst (λ (t : ℤ). Heard r.client client (record { moment = moment_of t; bytes = next_of r.down_to n r.down }) r.answers answers' r.client_fault fault') same
-    (subst (λ (q : List ℕ). Heard r.client client (record { moment = moment_of z; bytes = q }) r.answers answers' r.client_fault fault') next heard))
-    emptied sent
+    let cut = piece_is r.down_to n down_to r.clock z r.down bytes piece b.down_within same all small is more in
+    heard_between s w r n down_to client client' answers' up' fault' b cut.1 (subst (λ (p : Piece). Heard r.client client p r.answers answers' r.client_fault fault') cut.0 heard) emptied sent

@@ -2,14 +2,14 @@
 use Rattle.std.proofs.Common.{◌≡◌, ℕ, ℤ, ◌≤◌, max, Bool, true, false, List, [], ◌∷◌, ◌++◌, map, length, Option, Some, None, refl, sym, ap, subst, ◌∙◌, true≢false, arith}
 use Rattle.std.specs.Prelude.{not, is_some}
 use Rattle.std.proofs.lemmas.List.{append-nil, map-append, length-append}
+use Rattle.ua_frame.specs.Rows.{first_row}
 use Rattle.ua_frame.specs.Streams.{moment_of}
 use Rattle.ua_service.specs.declared.request.Request.{Request}
 use Rattle.ua_conn.specs.client.Asker.{Asker}
 use Rattle.ua_conn.specs.client.Commands.{Act, Ask, Renew, Close, Command, Commands, asked, asked_in, asked_by, next_id}
 use Rattle.ua_conn.specs.client.Reading.{client_reading_of, matched}
 use Rattle.ua_conn.specs.client.Sending.{client_bytes}
-use Rattle.ua_conn.specs.client.Asking.{in_flight, act_rows, standing, ask_fault}
-use Rattle.ua_conn.specs.client.Faults.{first_of}
+use Rattle.ua_conn.specs.client.Asking.{act_rows, standing, ask_fault}
 use Rattle.ua_conn.specs.client.Held.{Log, Told, IsLog, commands_of, stream_of, latest_of, fault_in, refused_in, client_held}
 use Rattle.ua_conn.specs.client.Machine.{client_gain}
 use Rattle.ua_conn.specs.client.Feeding.{ClientShown, Lived, Accepts, AcceptsAll, RefusedBy}
@@ -35,18 +35,18 @@ asked_more c cmds =
     map-append (λ a. a.request) (asked_in cmds) (asked_by (next_id cmds) c.seen c.act) ∙ ap (λ l. asked cmds ++ l) (asked_now (next_id cmds) c.seen c.act)
 
 -- a command brings neither answers nor a fault
-told_stays : (a : Asker) (log : Log) (now : ℕ) (act : Act) → 1 ≤ a.first_sequence → IsLog in_flight a (Told now act ∷ log) → fault_in a log ≡ None →
+told_stays : (a : Asker) (log : Log) (now : ℕ) (act : Act) → 1 ≤ a.first_sequence → IsLog a (Told now act ∷ log) → fault_in a log ≡ None →
     (matched a (commands_of (Told now act ∷ log)) (stream_of log) ≡ matched a (commands_of log) (stream_of log)) × (fault_in a (Told now act ∷ log) ≡ None)
 unfolding client_gain
-told_stays a log now act first is fine = let g = told_gained in_flight a log now act first is fine in (g.answered ∙ append-nil _, g.fault_is)
+told_stays a log now act first is fine = let g = told_gained a log now act first is fine in (g.answered ∙ append-nil _, g.fault_is)
 
 -- what a run is behind a command that was accepted
 abbrev pub told_run : Run → ClientShown → List Request → List ℕ → Run
 told_run r client asked up = record r { client = client; asked = asked; up = up }
 
 pub accepted_between : (s : Setup) (w : World) (r : Run) (act : Act) (client client' : ClientShown) (asked' : List Request) (up' : List ℕ) → Between s w r →
-    AcceptsAll in_flight r.client (moment_of r.clock) act client → client' ≡ record client { output = [] } → up' ≡ r.up ++ client.output → asked' ≡ r.asked ++ more_asked act →
-    Between s (told in_flight s w act) (told_run r client' asked' up')
+    AcceptsAll r.client (moment_of r.clock) act client → client' ≡ record client { output = [] } → up' ≡ r.up ++ client.output → asked' ≡ r.asked ++ more_asked act →
+    Between s (told s w act) (told_run r client' asked' up')
 accepted_between s w r act client client' asked' up' b accepts emptied sent kept = by b.client
   where
     now : ℕ
@@ -55,15 +55,15 @@ accepted_between s w r act client client' asked' up' b accepts emptied sent kept
     c : Command
     c = record { act = act; moment = now; seen = length w.down }
 
-    by : ClientAt s.asker now w.cmds w.down w.settled r.client r.client_fault → Between s (told in_flight s w act) (told_run r client' asked' up')
+    by : ClientAt s.asker now w.cmds w.down w.settled r.client r.client_fault → Between s (told s w act) (told_run r client' asked' up')
     by (Failed f failed is shows) = absurd (true≢false (sym failed ∙ accepts.0))
     by (Lives log l shows) =
         let a = s.asker in
-        let acc = subst (λ (t : ℤ). Accepts in_flight a log (moment_of t) act r.client client) b.clock (accepts.1 a log l.lived) in
-        let none : ask_fault in_flight a w.cmds w.down act ≡ None = (λ i. ask_fault in_flight a (sym l.commands i) (sym l.stream i) act) ∙ acc.fine in
-        let turns : told in_flight s w act ≡ record w { cmds = c ∷ w.cmds } = ap (told_by w act) none in
+        let acc = subst (λ (t : ℤ). Accepts a log (moment_of t) act r.client client) b.clock (accepts.1 a log l.lived) in
+        let none : ask_fault a w.cmds w.down act ≡ None = (λ i. ask_fault a (sym l.commands i) (sym l.stream i) act) ∙ acc.fine in
+        let turns : told s w act ≡ record w { cmds = c ∷ w.cmds } = ap (told_by w act) none in
         let later : Log = Told now act ∷ log in
-        let is : IsLog in_flight a later = (acc.fine, l.lived.accepted) in
+        let is : IsLog a later = (acc.fine, l.lived.accepted) in
         let stays = told_stays a log now act l.lived.first is l.lived.fine in
         let moment : max (latest_of log) now ≡ now = omega (arith, l.before) in
         let cmds : commands_of later ≡ c ∷ w.cmds = λ i. record { act = act; moment = moment i; seen = length (l.stream i) } ∷ l.commands i in
@@ -104,8 +104,8 @@ accepted_between s w r act client client' asked' up' b accepts emptied sent kept
           down_within = b.down_within;
         })
 
-refusal_says : (old : ClientShown) (act : Act) (fault : AskFault) → old.failed ≡ false → is_memory fault ≡ false → RefusedBy in_flight old act fault →
-    (a : Asker) (log : Log) → Lived in_flight a log old → refused_in in_flight a log act ≡ Some fault
+refusal_says : (old : ClientShown) (act : Act) (fault : AskFault) → old.failed ≡ false → is_memory fault ≡ false → RefusedBy old act fault →
+    (a : Asker) (log : Log) → Lived a log old → refused_in a log act ≡ Some fault
 refusal_says old act reasons.NoMemory alive m h = absurd (cc m)
 refusal_says old act reasons.Ended alive m h = absurd (true≢false (sym h ∙ alive))
 refusal_says old act reasons.NotOpen alive m h = h.1
@@ -117,30 +117,30 @@ refusal_says old act reasons.StillPending alive m h = h.1
 refusal_says old act reasons.BadPartLimit alive m h = h.1
 
 pub refused_between : (s : Setup) (w : World) (r : Run) (act : Act) (client : ClientShown) (fault : AskFault) → Between s w r →
-    client ≡ r.client → is_memory fault ≡ false → RefusedBy in_flight r.client act fault → Between s (told in_flight s w act) (record r { client = client })
-refused_between s w r act client fault b kept m refused = subst (λ (k : ClientShown). Between s (told in_flight s w act) (record r { client = k })) (sym kept) (by b.client)
+    client ≡ r.client → is_memory fault ≡ false → RefusedBy r.client act fault → Between s (told s w act) (record r { client = client })
+refused_between s w r act client fault b kept m refused = subst (λ (k : ClientShown). Between s (told s w act) (record r { client = k })) (sym kept) (by b.client)
   where
-    stays : (f : AskFault) → ask_fault in_flight s.asker w.cmds w.down act ≡ Some f → Between s (told in_flight s w act) r
+    stays : (f : AskFault) → ask_fault s.asker w.cmds w.down act ≡ Some f → Between s (told s w act) r
     stays f e = subst (λ (v : World). Between s v r) (sym (ap (told_by w act) e)) b
 
-    by : ClientAt s.asker (moment_of w.clock) w.cmds w.down w.settled r.client r.client_fault → Between s (told in_flight s w act) r
+    by : ClientAt s.asker (moment_of w.clock) w.cmds w.down w.settled r.client r.client_fault → Between s (told s w act) r
     by (Lives log l shows) =
-        stays fault ((λ i. ask_fault in_flight s.asker (sym l.commands i) (sym l.stream i) act) ∙ refusal_says r.client act fault l.alive m refused s.asker log l.lived)
+        stays fault ((λ i. ask_fault s.asker (sym l.commands i) (sym l.stream i) act) ∙ refusal_says r.client act fault l.alive m refused s.asker log l.lived)
     by (Failed f failed is shows) =
-        stays reasons.Ended (ap (λ (o : Option ClientFault). first_of ((is_some o, reasons.Ended) ∷ (not (standing w.cmds (client_reading_of s.asker w.cmds w.down).past).channel_open, reasons.NotOpen) ∷ act_rows in_flight (standing w.cmds (client_reading_of s.asker w.cmds w.down).past) act)) is)
+        stays reasons.Ended (ap (λ (o : Option ClientFault). first_row ((is_some o, reasons.Ended) ∷ (not (standing w.cmds (client_reading_of s.asker w.cmds w.down).past).channel_open, reasons.NotOpen) ∷ act_rows (standing w.cmds (client_reading_of s.asker w.cmds w.down).past) act)) is)
 
 -- a command at the clock's number, as its call shows it
 
 pub told_on : (s : Setup) (w : World) (r : Run) (act : Act) (z : ℤ) (accepted : Bool) (client client' : ClientShown) (asked' : List Request) (up' : List ℕ) → z ≡ r.clock → accepted ≡ true →
     Tells r.client (moment_of z) act client accepted → client' ≡ record client { output = [] } → up' ≡ r.up ++ client.output → asked' ≡ r.asked ++ more_asked act →
-    Between s w r → Between s (told in_flight s w act) (told_run r client' asked' up')
+    Between s w r → Between s (told s w act) (told_run r client' asked' up')
 told_on s w r act z accepted client client' asked' up' same taken tells emptied sent kept b =
     accepted_between s w r act client client' asked' up' b
-    (subst (λ (t : ℤ). AcceptsAll in_flight r.client (moment_of t) act client) same (subst (λ (q : Bool). Tells r.client (moment_of z) act client q) taken tells))
+    (subst (λ (t : ℤ). AcceptsAll r.client (moment_of t) act client) same (subst (λ (q : Bool). Tells r.client (moment_of z) act client q) taken tells))
     emptied sent kept
 
 pub told_off : (s : Setup) (w : World) (r : Run) (act : Act) (z : ℤ) (accepted : Bool) (client : ClientShown) → accepted ≡ false → Tells r.client (moment_of z) act client accepted →
-    Between s w r → Between s (told in_flight s w act) (record r { client = client })
+    Between s w r → Between s (told s w act) (record r { client = client })
 told_off s w r act z accepted client refused tells b =
     let t : Tells r.client (moment_of z) act client false = subst (λ (q : Bool). Tells r.client (moment_of z) act client q) refused tells in
     refused_between s w r act client t.1.0 b t.0 t.1.1 t.1.2

@@ -10,7 +10,6 @@ use Rattle.ua_conn.specs.client.Asker.{Asker}
 use Rattle.ua_conn.specs.client.Commands.{Commands}
 use Rattle.ua_conn.specs.client.Reading.{client_fault}
 use Rattle.ua_conn.specs.client.Sending.{client_bytes}
-use Rattle.ua_conn.specs.client.Asking.{in_flight}
 use Rattle.ua_conn.specs.server.Faults.{fault_in_rest}
 use Rattle.ua_conn.specs.client.Faults.{client_fault_in_rest}
 use Rattle.ua_conn.specs.client.Held.{client_held}
@@ -51,15 +50,15 @@ begins_between s r client first clock shown emptied serves up up_to down_to aske
       down_within = omega (arith, down_to);
     }
 
-run_more : (s : Setup) (w : World) (es fs : List Step) → run in_flight s w (es ++ fs) ≡ run in_flight s (run in_flight s w es) fs
+run_more : (s : Setup) (w : World) (es fs : List Step) → run s w (es ++ fs) ≡ run s (run s w es) fs
 run_more s w [] fs = refl
-run_more s w (e ∷ es) fs = run_more s (happens in_flight s w e) es fs
+run_more s w (e ∷ es) fs = run_more s (happens s w e) es fs
 
 -- the first steps and one more
-pub one_step : (s : Setup) (schedule : List Step) (i : ℕ) (d : Step) (r r' : Run) → i < length schedule → Between s (run in_flight s (begun s) (take i schedule)) r →
-    ((w : World) → Between s w r → Between s (happens in_flight s w (get_or schedule i d)) r') → Between s (run in_flight s (begun s) (take (i + 1) schedule)) r'
+pub one_step : (s : Setup) (schedule : List Step) (i : ℕ) (d : Step) (r r' : Run) → i < length schedule → Between s (run s (begun s) (take i schedule)) r →
+    ((w : World) → Between s w r → Between s (happens s w (get_or schedule i d)) r') → Between s (run s (begun s) (take (i + 1) schedule)) r'
 one_step s schedule i d r r' l b step =
-    subst (λ (w : World). Between s w r') (sym (ap (run in_flight s (begun s)) (take_more schedule i d l) ∙ run_more s (begun s) (take i schedule) (get_or schedule i d ∷ []))) (step (run in_flight s (begun s) (take i schedule)) b)
+    subst (λ (w : World). Between s w r') (sym (ap (run s (begun s)) (take_more schedule i d l) ∙ run_more s (begun s) (take i schedule) (get_or schedule i d ∷ []))) (step (run s (begun s) (take i schedule)) b)
 
 -- what came of each end
 server_end_is : (site : Site) (clock : ℕ) (up : List TimedByte) (server : Shown) (end : Option End) → ServerAt site clock up server end → end ≡ stop (end_of site up)
@@ -74,11 +73,11 @@ abbrev pub told_in : Run → Story
 told_in r = record { asked = r.asked; handed = r.handed; answers = r.answers; up = r.up; down = r.down; server_end = r.server_end; client_fault = r.client_fault }
 
 -- the whole story
-pub story_is : (s : Setup) (schedule : List Step) (i : ℕ) (r : Run) → length schedule ≤ i → Between s (run in_flight s (begun s) (take i schedule)) r →
+pub story_is : (s : Setup) (schedule : List Step) (i : ℕ) (r : Run) → length schedule ≤ i → Between s (run s (begun s) (take i schedule)) r →
     told_in r ≡ story_of s schedule
 story_is s schedule i r l b =
-    let c = subst (λ (es : List Step). Between s (run in_flight s (begun s) es) r) (take_all i schedule l) b in
-    let w = final in_flight s schedule in
+    let c = subst (λ (es : List Step). Between s (run s (begun s) es) r) (take_all i schedule l) b in
+    let w = final s schedule in
     λ j. record {
       asked = c.asked_are j;
       handed = c.handed_are j;

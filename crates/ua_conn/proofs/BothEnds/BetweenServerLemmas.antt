@@ -23,26 +23,36 @@ next_length from n bytes le = omega (arith, le, length-take n (drop from bytes),
 pub delivered_length : (clock : ℤ) (before : List TimedByte) (n : ℕ) (bytes : List ℕ) → length (delivered clock before n bytes) ≡ length before + length (next_of (length before) n bytes)
 delivered_length clock before n bytes = length-append before (map (at (moment_of clock)) (next_of (length before) n bytes)) ∙ ap (λ k. length before + k) (length-map (next_of (length before) n bytes) (at (moment_of clock)))
 
+-- the piece that they are, at the clock's moment
+abbrev pub next_piece : ℤ → ℕ → ℕ → List ℕ → Piece
+next_piece clock from n bytes = record { moment = moment_of clock; bytes = next_of from n bytes }
+
+-- a piece as the code cuts it, and where it ends
+pub piece_is : (from n to : ℕ) (clock z : ℤ) (stream bytes piece : List ℕ) → from ≤ length stream → z ≡ clock → bytes ≡ stream → length bytes < 18446744073709551616 → piece ≡ next_of from n bytes →
+    to ≡ min (from + length piece) 18446744073709551615 → (record { moment = moment_of z; bytes = piece } ≡ next_piece clock from n stream) × (to ≡ from + length (next_of from n stream))
+piece_is from n to clock z stream bytes piece within same all small is more =
+    let next : piece ≡ next_of from n stream = is ∙ ap (next_of from n) all in (
+      λ i. record { moment = moment_of (same i); bytes = next i },
+      omega (arith, more, ap length next, next_length from n stream within, ap length all, small),
+    )
+
 abbrev pub served_run : Run → Shown → ℕ → List Request → List ℕ → Option End → Run
 served_run r server up_to handed down end = record r { server = server; up_to = up_to; handed = handed; down = down; server_end = end }
 
 pub served_between : (s : Setup) (w : World) (r : Run) (n up_to : ℕ) (server : Shown) (down' : List ℕ) (handed' : List Request) (end' : Option End) → Between s w r →
     up_to ≡ r.up_to + length (next_of r.up_to n r.up) →
-    Served r.server server (record { moment = moment_of r.clock; bytes = next_of r.up_to n r.up }) r.down down' r.handed handed' r.server_end end' →
+    Served r.server server (next_piece r.clock r.up_to n r.up) r.down down' r.handed handed' r.server_end end' →
     Between s (record w { up = delivered w.clock w.up n (client_stream s w) }) (served_run r server up_to handed' down' end')
 served_between s w r n up_to server down' handed' end' b more served = by served
   where
     now : ℕ
     now = moment_of w.clock
 
-    x : Piece
-    x = record { moment = moment_of r.clock; bytes = next_of r.up_to n r.up }
-
     y : Piece
-    y = record { moment = now; bytes = next_of (length w.up) n (client_stream s w) }
+    y = next_piece w.clock (length w.up) n (client_stream s w)
 
-    same : x ≡ y
-    same = λ i. record { moment = moment_of (b.clock i); bytes = next_of (b.up_to i) n (b.up_is i) }
+    same : next_piece r.clock r.up_to n r.up ≡ y
+    same = λ i. next_piece (b.clock i) (b.up_to i) n (b.up_is i)
 
     up : List TimedByte
     up = delivered w.clock w.up n (client_stream s w)
@@ -100,7 +110,7 @@ served_between s w r n up_to server down' handed' end' b more served = by served
         (omega (arith, ap length down_is))
         (Stopped e (ap (λ (v : Shown). v.failed) server_is ∙ f) (ap (λ (R : Reading). stop R.ending) stays ∙ is) (end_is ∙ shows))
 
-    by : Served r.server server x r.down down' r.handed handed' r.server_end end' → Between s (record w { up = up }) (served_run r server up_to handed' down' end')
+    by : Served r.server server (next_piece r.clock r.up_to n r.up) r.down down' r.handed handed' r.server_end end' → Between s (record w { up = up }) (served_run r server up_to handed' down' end')
     by (Fed asked alive feeds hands) = when_fed asked alive (subst (λ p. FeedsAll r.server p r.down down' asked end' server) same feeds) hands b.server
     by (Over failed server_is down_is handed_is end_is) = when_over failed server_is down_is handed_is end_is b.server
 
@@ -109,11 +119,5 @@ pub served_step : (r : Run) (n up_to : ℕ) (z : ℤ) (bytes piece : List ℕ) (
     Served r.server server (record { moment = moment_of z; bytes = piece }) r.down down' r.handed handed' r.server_end end' →
     (s : Setup) (w : World) → Between s w r → Between s (record w { up = delivered w.clock w.up n (client_stream s w) }) (served_run r server up_to handed' down' end')
 served_step r n up_to z bytes piece server down' handed' end' same all small is more served s w b =
-    let next : piece ≡ next_of r.up_to n r.up = is ∙ ap (next_of r.up_to n) all in
-    let len : length piece ≡ length (next_of r.up_to n r.up) = ap length next in
-    let within : r.up_to + length (next_of r.up_to n r.up) ≤ length r.up = next_length r.up_to n r.up b.up_within in
-    let whole : length bytes ≡ length r.up = ap length all in
-    let to : up_to ≡ r.up_to + length (next_of r.up_to n r.up) = omega (arith, more, len, within, whole, small) in
-    served_between s w r n up_to server down' handed' end' b to
-    (subst (λ (t : ℤ). Served r.server server (record { moment = moment_of t; bytes = next_of r.up_to n r.up }) r.down down' r.handed handed' r.server_end end') same
-    (subst (λ (q : List ℕ). Served r.server server (record { moment = moment_of z; bytes = q }) r.down down' r.handed handed' r.server_end end') next served))
+    let cut = piece_is r.up_to n up_to r.clock z r.up bytes piece b.up_within same all small is more in
+    served_between s w r n up_to server down' handed' end' b cut.1 (subst (λ (p : Piece). Served r.server server p r.down down' r.handed handed' r.server_end end') cut.0 served)

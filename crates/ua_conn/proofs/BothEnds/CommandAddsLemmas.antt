@@ -29,9 +29,8 @@ use Rattle.ua_conn.proofs.BothEnds.OnTheWayLemmas.{frames_replied, Are}
 use Rattle.ua_conn.proofs.BothEnds.OpeningKeepLemmas.{told_asked, open_asked_is, close_asked_is, are_spoken, sent_are, replied_are}
 use Rattle.ua_conn.proofs.BothEnds.SpokenLemmas.{Opens, Closes, spell, spell_is}
 use Rattle.ua_conn.proofs.BothEnds.SpokenReplyLemmas.{reply_spelled, replies_spoken}
-use Rattle.ua_conn.proofs.BothEnds.SpokenRequestLemmas.{says_all, told, AreSpoken, last_moment}
+use Rattle.ua_conn.proofs.BothEnds.SpokenRequestLemmas.{says_all, told, AreSpoken, last_moment, replies_go}
 use Rattle.ua_conn.proofs.BothEnds.SpokenSessionLemmas.{open_body, close_body}
-use Rattle.ua_conn.proofs.BothEnds.SpokenStreamLemmas.{replies_go}
 use Rattle.ua_conn.proofs.BothEnds.StoryLemmas.{sent_spelled, all_spoken}
 
 -- ---- lists of one frame, or none

@@ -15,16 +15,17 @@ use Rattle.ua_conn.specs.client.Sending.{Sent, sent_after}
 use Rattle.ua_conn.specs.Story.{Setup}
 use Rattle.ua_conn.specs.declared.outcome.End.{End}
 use Rattle.ua_conn.specs.declared.outcome.End.TheVariants.{Closed, InputEnded, Truncated, Refused, LinkFailed, TurnsSpent, NoMemory}
+use Rattle.ua_conn.proofs.ClientEnd.GainLemmas.{after_append}
+use Rattle.ua_conn.proofs.ServerEnd.ReadyLemmas.{newest_append}
 use Rattle.ua_conn.proofs.ClientEnd.CommandLemmas.{all_accept}
 use Rattle.ua_conn.proofs.BothEnds.FaithfulLemmas.{prefix_trans}
-use Rattle.ua_conn.proofs.BothEnds.FrameListLemmas.{newest_append, all_join, prefix_length, prefix_shorter, cut, are_length, Timely, timely_front, timely_back, place_of, sent_cut, sent_after_join, replied_cut, replies_begin, spelled_length}
+use Rattle.ua_conn.proofs.BothEnds.FrameListLemmas.{all_join, prefix_length, prefix_shorter, cut, are_length, Timely, timely_front, timely_back, place_of, sent_cut, replied_cut, replies_begin, spelled_length}
 use Rattle.ua_conn.proofs.BothEnds.HoldLemmas.{Hold, Keeps}
 use Rattle.ua_conn.proofs.BothEnds.InvariantForms.{Comes, Core}
 use Rattle.ua_conn.proofs.BothEnds.OnTheWayLemmas.{frames_sent, frames_replied, replied_joined, Are, past_of}
 use Rattle.ua_conn.proofs.BothEnds.OpeningKeepLemmas.{sent_are}
 use Rattle.ua_conn.proofs.BothEnds.SpokenLemmas.{spell, spelled_list, BeginsSpoken}
-use Rattle.ua_conn.proofs.BothEnds.SpokenRequestLemmas.{says_all}
-use Rattle.ua_conn.proofs.BothEnds.SpokenStreamLemmas.{replies_go}
+use Rattle.ua_conn.proofs.BothEnds.SpokenRequestLemmas.{says_all, replies_go}
 use Rattle.ua_conn.proofs.BothEnds.StoryLemmas.{all_spoken}
 use Rattle.ua_conn.proofs.BothEnds.WayLemmas.{server_stands}
 
@@ -135,7 +136,7 @@ core_step s cmds c o xs ms u b seen adds core ps rs comes =
     let joined : Keeps s (c ∷ cmds) o n (sent_after 0 (xs ++ ms)) (numbered_after 0 (replies s.site (past_of (x.ps1 ++ x.qs)))) [] [] (x.ps1 ++ x.qs) (x.rs1 ++ x.ns) = record {
       sound = all_join _ [] x.ps1 x.qs old.sound new.sound;
       taken = all_join _ [] x.rs1 x.ns (all_accept s.asker c cmds [] x.rs1 old.taken) new.taken;
-      holds = subst (λ m. Hold s (c ∷ cmds) o n m (numbered_after 0 (replies s.site (past_of (x.ps1 ++ x.qs)))) (past_of (x.ps1 ++ x.qs)) (past_of (x.rs1 ++ x.ns))) (sym (sent_after_join 0 xs ms))
+      holds = subst (λ m. Hold s (c ∷ cmds) o n m (numbered_after 0 (replies s.site (past_of (x.ps1 ++ x.qs)))) (past_of (x.ps1 ++ x.qs)) (past_of (x.rs1 ++ x.ns))) (sym (after_append 0 xs ms))
           (subst (λ past. Hold s (c ∷ cmds) o n (sent_after (sent_after 0 xs) ms) (numbered_after 0 (replies s.site past)) past (past_of (x.rs1 ++ x.ns))) (sym (newest_append x.ps1 x.qs []))
           (subst (λ past. Hold s (c ∷ cmds) o n (sent_after (sent_after 0 xs) ms) (numbered_after 0 (replies s.site (newest_first x.qs there))) (newest_first x.qs there) past) (sym (newest_append x.rs1 x.ns [])) new.holds));
     } in

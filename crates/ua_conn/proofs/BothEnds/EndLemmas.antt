@@ -154,12 +154,3 @@ frames_end site n (r ∷ rs) (f ∷ fs) past short e =
         length (ended_ids (newest_first fs (f ∷ past))) ≡ length (ended_ids past) + length (cond b (r ∷ filter ends_reply rs) (filter ends_reply rs))
     by true k h = let more : ended_ids (f ∷ past) ≡ (carried f).request_id ∷ ended_ids past = rw k refl in omega (arith, h, ap length more)
     by false k h = let less : ended_ids (f ∷ past) ≡ ended_ids past = rw k refl in omega (arith, h, ap length less)
-
--- fewer frames end no more
-pub ended_go : (past : Past) (fs : List Frame) → length (ended_ids past) ≤ length (ended_ids (newest_first fs past))
-ended_go past [] = omega arith
-ended_go past (f ∷ fs) = by (ends_one f) refl (ended_go (f ∷ past) fs)
-  where
-    by : (b : Bool) → ends_one f ≡ b → length (ended_ids (f ∷ past)) ≤ length (ended_ids (newest_first fs (f ∷ past))) → length (ended_ids past) ≤ length (ended_ids (newest_first fs (f ∷ past)))
-    by true k h = let more : ended_ids (f ∷ past) ≡ (carried f).request_id ∷ ended_ids past = rw k refl in omega (arith, h, ap length more)
-    by false k h = let less : ended_ids (f ∷ past) ≡ ended_ids past = rw k refl in omega (arith, h, ap length less)

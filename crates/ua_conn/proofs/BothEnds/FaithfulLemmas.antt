@@ -3,11 +3,12 @@ use mathlib.Core.List.{IsPrefix}
 use Rattle.std.proofs.Common.{◌≡◌, ℕ, ◌≤◌, Bool, true, false, List, [], ◌∷◌, ◌++◌, map, take, drop, length, Option, Some, None, refl, sym, ap, subst, ◌∙◌, arith, append_assoc, ◌⊎◌, inl, inr}
 use Rattle.std.specs.Prelude.{ℤ, ◌==◌, ◌&&◌, not, is_some, option_map}
 use Rattle.std.proofs.lemmas.List.{append-nil, take-append-drop, length-append}
+use Rattle.std.proofs.lemmas.Bool.{not-false}
+use Rattle.ua_frame.specs.Rows.{first_row}
 use Rattle.ua_frame.specs.Streams.{TimedByte, at, plain, moment_of, rest_of}
 use Rattle.ua_frame.specs.StreamLaws.{plain_at, plain_append, length_plain}
 use Rattle.ua_frame.specs.Layout.{Frame, kind_of, flag_of, frames_of}
 use Rattle.ua_frame.specs.HeaderRows.{header_fault}
-use Rattle.ua_frame.specs.declared.kind.Kind.{Kind}
 use Rattle.ua_frame.specs.declared.kind.Kind.TheVariants as kinds
 use Rattle.ua_chunk.specs.Numbers.{number_after}
 use Rattle.ua_channel.specs.declared.token.Token.{Token}
@@ -19,10 +20,10 @@ use Rattle.ua_conn.specs.client.Asker.{Asker}
 use Rattle.ua_conn.specs.client.Commands.{Act, Ask, Renew, Close, Command, Commands, next_id, is_closed}
 use Rattle.ua_conn.specs.client.Past.{client_known, granted_in, ack_by, or_frame, acknowledge_frame_in, is_acknowledge_frame}
 use Rattle.ua_conn.specs.client.Pending.{bytes_in, come_by, due_at, wanted_at}
-use Rattle.ua_conn.specs.client.Faults.{first_of, or_fault, greatest_answer, client_rows, awaited_rows, client_fault_by, is_awaited, token_usable}
+use Rattle.ua_conn.specs.client.Faults.{greatest_answer, client_rows, client_fault_by, is_awaited, token_usable}
 use Rattle.ua_conn.specs.client.Reading.{ClientReading, client_fault_at, client_reading, client_reading_of, client_fault}
 use Rattle.ua_conn.specs.client.Sending.{Sent, sent_bytes, more_sent, sent_after, sent_all, greets, opens, opens_by, act_says, commands_say, sent_by, client_bytes}
-use Rattle.ua_conn.specs.client.Asking.{InFlight, standing, act_rows, ask_fault}
+use Rattle.ua_conn.specs.client.Asking.{standing, act_rows, ask_fault}
 use Rattle.ua_conn.specs.Story.{Setup, World, begun, client_stream, server_stream, delivered, told_by, came_by, happens, run, final}
 use Rattle.ua_conn.specs.BothEnds.{Faithful}
 use Rattle.ua_conn.specs.declared.schedule.Step.{Step}
@@ -31,9 +32,11 @@ use Rattle.ua_conn.specs.declared.client.ask_fault.AskFault.{AskFault}
 use Rattle.ua_conn.specs.declared.client.fault.ClientFault.{ClientFault}
 use Rattle.ua_conn.specs.declared.client.fault.ClientFault.TheVariants.{Broken}
 use Rattle.ua_conn.specs.declared.client.ask_fault.AskFault.TheVariants.{Ended, NotOpen}
+use Rattle.ua_conn.proofs.KindLemmas.{is_open_tells}
+use Rattle.ua_conn.proofs.TableLemmas.{all_no, or_none}
 use Rattle.ua_conn.proofs.ServerEnd.GrowthLemmas.{reply_grows}
 use Rattle.ua_conn.proofs.ClientEnd.PlaceLemmas.{AllBehind, AllWithin, frames_within, later_frames, come_by_same, behind_less, behind_weaker}
-use Rattle.ua_conn.proofs.ClientEnd.ReadingLemmas.{ReadsOn, reads_more, reads_same}
+use Rattle.ua_conn.proofs.ClientEnd.ReadingLemmas.{ReadsOn, reads_more, reads_same, along_reading}
 
 -- ---- beginnings
 
@@ -150,44 +153,17 @@ started_later a cmds v t (acknowledged f e) =
 abbrev IsAcked : Past → Type 0
 IsAcked past = (granted_in past ≡ []) ⊎ ((f : Frame) × (acknowledge_frame_in past ≡ Some f))
 
-is_open_tells : (kind : Option Kind) → is_open kind ≡ true → kind ≡ Some kinds.Open
-is_open_tells None h = absurd (cc h)
-is_open_tells (Some kinds.Hello) h = absurd (cc h)
-is_open_tells (Some kinds.Acknowledge) h = absurd (cc h)
-is_open_tells (Some kinds.Error) h = absurd (cc h)
-is_open_tells (Some kinds.ReverseHello) h = absurd (cc h)
-is_open_tells (Some kinds.Open) h = refl
-is_open_tells (Some kinds.Message) h = absurd (cc h)
-is_open_tells (Some kinds.Close) h = absurd (cc h)
-
-or_none : (x y : Option ClientFault) → or_fault x y ≡ None → y ≡ None
-or_none None y h = h
-or_none (Some fault) y h = absurd (cc h)
-
-first_row_fails : {S : Type 0} (b : Bool) (x : S) (rows : List (Bool × S)) → first_of ((b, x) ∷ rows) ≡ None → b ≡ false
-first_row_fails true x rows h = absurd (cc h)
-first_row_fails false x rows h = refl
-
-second_row_fails : {S : Type 0} (b c : Bool) (x y : S) (rows : List (Bool × S)) → first_of ((b, x) ∷ (c, y) ∷ rows) ≡ None → c ≡ false
-second_row_fails true c x y rows h = absurd (cc h)
-second_row_fails false c x y rows h = first_row_fails c y rows h
-
-not_false : (b : Bool) → not b ≡ false → b ≡ true
-not_false true h = refl
-not_false false h = absurd (cc h)
-
 -- an OPN is awaited behind an Acknowledge alone
 awaited_open : (a : Asker) (past : Past) (due : Option ℕ) (wanted : Option Request) (usable : Bool) (f : Frame) → client_fault_by a (client_known past) due wanted usable f ≡ None → kind_of f.bytes ≡ Some kinds.Open →
     (g : Frame) × (acknowledge_frame_in past ≡ Some g)
 unfolding client_fault_by client_known
 awaited_open a past due wanted usable f h kind = by (acknowledge_frame_in past) refl
   where
-    rows : first_of (client_rows a (client_known past) due wanted usable f (flag_of f.bytes) (Some kinds.Open)) ≡ None
-    rows = ap (λ k. first_of (client_rows a (client_known past) due wanted usable f (flag_of f.bytes) k)) (sym kind) ∙ or_none (option_map Broken (header_fault (greatest_answer (client_known past).ack) f.bytes)) (first_of (client_rows a (client_known past) due wanted usable f (flag_of f.bytes) (kind_of f.bytes))) h
+    rows : first_row (client_rows a (client_known past) due wanted usable f (flag_of f.bytes) (Some kinds.Open)) ≡ None
+    rows = ap (λ k. first_row (client_rows a (client_known past) due wanted usable f (flag_of f.bytes) k)) (sym kind) ∙ or_none (option_map Broken (header_fault (greatest_answer (client_known past).ack) f.bytes)) (first_row (client_rows a (client_known past) due wanted usable f (flag_of f.bytes) (kind_of f.bytes))) h
 
     awaited : is_awaited (client_known past) due (Some kinds.Open) ≡ true
-    awaited = not_false (is_awaited (client_known past) due (Some kinds.Open))
-        (first_row_fails (not (is_awaited (client_known past) due (Some kinds.Open))) (Broken 0x807E0000) (awaited_rows a (client_known past) due wanted usable f (flag_of f.bytes) (Some kinds.Open)) rows)
+    awaited = not-false (is_awaited (client_known past) due (Some kinds.Open)) (all_no (client_rows a (client_known past) due wanted usable f (flag_of f.bytes) (Some kinds.Open)) rows).0
 
     by : (o : Option Frame) → acknowledge_frame_in past ≡ o → (g : Frame) × (acknowledge_frame_in past ≡ Some g)
     by (Some g) e = (g, e)
@@ -207,25 +183,19 @@ acked_step a cmds past f h (inl e) = by (is_open (kind_of f.bytes)) refl
     by false o = inl (rw o e)
 
 acked : (a : Asker) (cmds : Commands) (past : Past) (fs : List Frame) (rest : List ℕ) → IsAcked past → IsAcked (client_reading a cmds past fs rest).past
-acked a cmds past [] rest h = h
-acked a cmds past (f ∷ fs) rest h = by (client_fault_at a cmds past f) refl (acked a cmds (f ∷ past) fs rest)
-  where
-    by : (o : Option ClientFault) → client_fault_at a cmds past f ≡ o → (IsAcked (f ∷ past) → IsAcked (client_reading a cmds (f ∷ past) fs rest).past) →
-        (let R : ClientReading = elim o [ Some fault ↦ record { past = past; fault = Some fault } | None ↦ client_reading a cmds (f ∷ past) fs rest ] in IsAcked R.past)
-    by (Some fault) e k = h
-    by None e k = k (acked_step a cmds past f e h)
+acked a cmds past fs rest h = along_reading IsAcked a cmds (acked_step a cmds) past fs rest h
 
 -- a command that is accepted comes behind the Acknowledge
-pub accepted_acked : (flight : InFlight) (a : Asker) (cmds : Commands) (v : List TimedByte) (act : Act) → ask_fault flight a cmds v act ≡ None → (f : Frame) × (acknowledge_frame_in (client_reading_of a cmds v).past ≡ Some f)
+pub accepted_acked : (a : Asker) (cmds : Commands) (v : List TimedByte) (act : Act) → ask_fault a cmds v act ≡ None → (f : Frame) × (acknowledge_frame_in (client_reading_of a cmds v).past ≡ Some f)
 unfolding client_known
-accepted_acked flight a cmds v act h = by (acked a cmds [] (frames_of v) (plain (rest_of v)) (inl refl))
+accepted_acked a cmds v act h = by (acked a cmds [] (frames_of v) (plain (rest_of v)) (inl refl))
   where
     P : Past
     P = (client_reading_of a cmds v).past
 
     is_there : (standing cmds P).channel_open ≡ true
-    is_there = not_false (standing cmds P).channel_open
-        (second_row_fails (is_some (client_reading_of a cmds v).fault) (not (standing cmds P).channel_open) Ended NotOpen (act_rows flight (standing cmds P) act) h)
+    is_there = not-false (standing cmds P).channel_open
+        (all_no ((is_some (client_reading_of a cmds v).fault, Ended) ∷ (not (standing cmds P).channel_open, NotOpen) ∷ act_rows (standing cmds P) act) h).1.0
 
     by : IsAcked P → (f : Frame) × (acknowledge_frame_in P ≡ Some f)
     by (inr g) = g
@@ -257,11 +227,11 @@ pub seen_one : (n : ℕ) (c : Command) (cmds : Commands) → c.seen ≤ n → Al
 unfolding AllSeen
 seen_one n c cmds le h = (le, h)
 
-flow_told : (flight : InFlight) (s : Setup) (w : World) → Flow s w → (act : Act) (o : Option AskFault) → ask_fault flight s.asker w.cmds w.down act ≡ o → Flow s (told_by w act o)
-flow_told flight s w i act (Some reason) e = i
-flow_told flight s w i act None e =
+flow_told : (s : Setup) (w : World) → Flow s w → (act : Act) (o : Option AskFault) → ask_fault s.asker w.cmds w.down act ≡ o → Flow s (told_by w act o)
+flow_told s w i act (Some reason) e = i
+flow_told s w i act None e =
     let c : Command = record { act = act; moment = moment_of w.clock; seen = length w.down } in
-    let a = accepted_acked flight s.asker w.cmds w.down act e in
+    let a = accepted_acked s.asker w.cmds w.down act e in
     record {
       up = prefix_trans (plain w.up) (client_stream s w) (client_bytes s.asker (c ∷ w.cmds) w.down) i.up (told_grows s.asker c w.cmds w.down (omega arith));
       down = i.down;
@@ -285,27 +255,27 @@ flow_down s w i n o = by o
     by (Some fault) = record { up = up; down = delivered_prefix w.clock w.down n (server_stream s w) i.down; seen = seen; started = started_later s.asker w.cmds w.down t i.started }
     by None = record { up = up; down = delivered_prefix w.clock w.down n (server_stream s w) i.down; seen = seen; started = started_later s.asker w.cmds w.down t i.started }
 
-pub flow_kept : (flight : InFlight) (s : Setup) (w : World) → Flow s w → (e : Step) → Flow s (happens flight s w e)
-flow_kept flight s w i (steps.Ask request part) = flow_told flight s w i (Ask request part) (ask_fault flight s.asker w.cmds w.down (Ask request part)) refl
-flow_kept flight s w i steps.Renew = flow_told flight s w i Renew (ask_fault flight s.asker w.cmds w.down Renew) refl
-flow_kept flight s w i steps.Close = flow_told flight s w i Close (ask_fault flight s.asker w.cmds w.down Close) refl
-flow_kept flight s w i (steps.Tick n) = record { up = i.up; down = i.down; seen = i.seen; started = i.started }
-flow_kept flight s w i (steps.Up n) = record {
+pub flow_kept : (s : Setup) (w : World) → Flow s w → (e : Step) → Flow s (happens s w e)
+flow_kept s w i (steps.Ask request part) = flow_told s w i (Ask request part) (ask_fault s.asker w.cmds w.down (Ask request part)) refl
+flow_kept s w i steps.Renew = flow_told s w i Renew (ask_fault s.asker w.cmds w.down Renew) refl
+flow_kept s w i steps.Close = flow_told s w i Close (ask_fault s.asker w.cmds w.down Close) refl
+flow_kept s w i (steps.Tick n) = record { up = i.up; down = i.down; seen = i.seen; started = i.started }
+flow_kept s w i (steps.Up n) = record {
   up = delivered_prefix w.clock w.up n (client_stream s w) i.up;
   down = prefix_trans (plain w.down) (server_stream s w) (reply_bytes s.site (delivered w.clock w.up n (client_stream s w))) i.down
       (reply_grows s.site w.up (map (at (moment_of w.clock)) (take n (drop (length w.up) (client_stream s w)))));
   seen = i.seen;
   started = i.started;
 }
-flow_kept flight s w i (steps.Down n) = flow_down s w i n (client_fault s.asker w.cmds (delivered w.clock w.down n (server_stream s w)))
+flow_kept s w i (steps.Down n) = flow_down s w i n (client_fault s.asker w.cmds (delivered w.clock w.down n (server_stream s w)))
 
-flow_run : (flight : InFlight) (s : Setup) (es : List Step) (w : World) → Flow s w → Flow s (run flight s w es)
-flow_run flight s [] w i = i
-flow_run flight s (e ∷ es) w i = flow_run flight s es (happens flight s w e) (flow_kept flight s w i e)
+flow_run : (s : Setup) (es : List Step) (w : World) → Flow s w → Flow s (run s w es)
+flow_run s [] w i = i
+flow_run s (e ∷ es) w i = flow_run s es (happens s w e) (flow_kept s w i e)
 
-pub flow : (flight : InFlight) (s : Setup) (schedule : List Step) → Flow s (final flight s schedule)
+pub flow : (s : Setup) (schedule : List Step) → Flow s (final s schedule)
 unfolding AllSeen
-flow flight s schedule = flow_run flight s schedule (begun s) (record { up = (client_stream s (begun s), refl); down = (server_stream s (begun s), refl); seen = tt; started = untold refl })
+flow s schedule = flow_run s schedule (begun s) (record { up = (client_stream s (begun s), refl); down = (server_stream s (begun s), refl); seen = tt; started = untold refl })
 
-pub faithful : (flight : InFlight) → Faithful flight
-faithful flight s schedule = let i = flow flight s schedule in (i.up, i.down)
+pub faithful : Faithful
+faithful s schedule = let i = flow s schedule in (i.up, i.down)

@@ -32,7 +32,7 @@ use Rattle.ua_conn.proofs.BothEnds.OpeningKeepLemmas.{client_of, opening_keeps, 
 use Rattle.ua_conn.proofs.BothEnds.SpokenLemmas.{Greets, Acknowledges, Opens, spell, spell_is, spelled_list, BeginsSpoken}
 use Rattle.ua_conn.proofs.BothEnds.SpokenReplyLemmas.{reply_spelled}
 use Rattle.ua_conn.proofs.BothEnds.SpokenSessionLemmas.{opening_taken, open_body}
-use Rattle.ua_conn.proofs.BothEnds.SpokenStreamLemmas.{replies_go}
+use Rattle.ua_conn.proofs.BothEnds.SpokenRequestLemmas.{replies_go}
 use Rattle.ua_conn.proofs.BothEnds.StoryLemmas.{all_spoken, sent_spelled}
 use Rattle.ua_conn.proofs.BothEnds.WayLemmas.{way}
 

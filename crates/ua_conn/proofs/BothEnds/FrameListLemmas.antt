@@ -6,23 +6,18 @@ use Rattle.std.proofs.lemmas.List.{length-append, length-map, map-append}
 use Rattle.ua_frame.specs.Layout.{Frame}
 use Rattle.ua_chunk.specs.Numbers.{number_after}
 use Rattle.ua_conn.specs.server.Site.{Site}
-use Rattle.ua_conn.specs.Past.{Past}
+use Rattle.ua_conn.specs.Past.{Past, known}
 use Rattle.ua_conn.specs.server.Replies.{Reply, spelled, more_numbered, numbered_after, spelled_all, replies}
 use Rattle.ua_conn.specs.server.Held.{newest_first}
 use Rattle.ua_conn.specs.client.Pending.{bytes_in}
 use Rattle.ua_conn.specs.client.Sending.{Sent, sent_bytes, more_sent, sent_after}
 use Rattle.ua_conn.specs.BothEnds.{AllAfter}
+use Rattle.ua_conn.proofs.ServerEnd.ReadyLemmas.{newest_append}
 use Rattle.ua_conn.proofs.ServerEnd.NumberLemmas.{spelled_append}
 use Rattle.ua_conn.proofs.BothEnds.OnTheWayLemmas.{frames_sent, frames_replied, Are, past_of}
-use Rattle.ua_conn.proofs.BothEnds.SpokenStreamLemmas.{replies_go}
-use Rattle.ua_conn.proofs.BothEnds.SpokenRequestLemmas.{says_all}
-use Rattle.ua_conn.specs.Past.{known}
+use Rattle.ua_conn.proofs.BothEnds.SpokenRequestLemmas.{replies_go, says_all}
 
 -- ---- what holds of each behind those before it
-
-pub newest_append : (xs ys : List Frame) (past : Past) → newest_first (xs ++ ys) past ≡ newest_first ys (newest_first xs past)
-newest_append [] ys past = refl
-newest_append (x ∷ xs) ys past = newest_append xs ys (x ∷ past)
 
 pub all_join : (P : Past → Frame → Type 0) (past : Past) (xs ys : List Frame) → AllAfter P past xs → AllAfter P (newest_first xs past) ys → AllAfter P past (xs ++ ys)
 all_join P past [] ys h k = k
@@ -127,10 +122,6 @@ place_of (p ∷ ps) (f ∷ fs) past e =
 pub sent_cut : (first n : ℕ) (xs ys : List Sent) → frames_sent first n (xs ++ ys) ≡ frames_sent first n xs ++ frames_sent first (sent_after n xs) ys
 sent_cut first n [] ys = refl
 sent_cut first n (x ∷ xs) ys = ap (λ l. sent_bytes (number_after first n) x ∷ l) (sent_cut first (more_sent n x) xs ys)
-
-pub sent_after_join : (n : ℕ) (xs ys : List Sent) → sent_after n (xs ++ ys) ≡ sent_after (sent_after n xs) ys
-sent_after_join n [] ys = refl
-sent_after_join n (x ∷ xs) ys = sent_after_join (more_sent n x) xs ys
 
 pub replied_cut : (site : Site) (n : ℕ) (rs qs : List Reply) → frames_replied site n (rs ++ qs) ≡ frames_replied site n rs ++ frames_replied site (numbered_after n rs) qs
 replied_cut site n [] qs = refl

@@ -6,7 +6,6 @@ use Rattle.ua_frame.specs.StreamLaws.{plain_append}
 use Rattle.ua_conn.specs.server.Replies.{reading_of, reply_bytes}
 use Rattle.ua_conn.specs.client.Commands.{asked_in}
 use Rattle.ua_conn.specs.client.Reading.{answers}
-use Rattle.ua_conn.specs.client.Asking.{InFlight}
 use Rattle.ua_conn.specs.Story.{Setup, World, final}
 use Rattle.ua_conn.specs.BothEnds.{IsSetup, served, AnswersInOrder, HandedAndAccepted}
 use Rattle.ua_conn.proofs.BothEnds.AcceptLemmas.{come}
@@ -36,10 +35,10 @@ fair s h w i (stopped status f dead order hands) = record { order = order; hands
 settled_plain : (a b : List TimedByte) → IsPrefix a b → IsPrefix (plain a) (plain b)
 settled_plain a b p = (plain p.0, sym (plain_append a p.0) ∙ ap plain p.1)
 
-pub handed_law : (flight : InFlight) → HandedAndAccepted flight
-handed_law flight s schedule h is =
-    let w = final flight s schedule in
-    let i = inv flight s h schedule is in
+pub handed_law : HandedAndAccepted
+handed_law s schedule h is =
+    let w = final s schedule in
+    let i = inv s h schedule is in
     let f = fair s h w i.base i.stage in
     let first = prefix_trans (plain w.settled) (plain w.down) (reply_bytes s.site w.up) (settled_plain w.settled w.down i.base.settles.front) i.base.flow.down in
     let st = standing s w.cmds w.up w.settled h first in

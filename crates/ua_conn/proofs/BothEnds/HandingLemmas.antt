@@ -17,12 +17,12 @@ use Rattle.ua_conn.specs.client.Sending.{Sent}
 use Rattle.ua_conn.specs.Story.{Setup}
 use Rattle.ua_conn.specs.BothEnds.{IsSetup, Served, served_by, AnswersInOrder}
 use Rattle.ua_conn.specs.declared.client.answer.Answer.{Answer}
+use Rattle.ua_conn.proofs.ServerEnd.ReadyLemmas.{newest_append}
 use Rattle.ua_conn.proofs.ClientEnd.FreshLemmas.{AreFresh}
 use Rattle.ua_conn.proofs.ClientEnd.IdLemmas.{fresh_later, fresh_before}
-use Rattle.ua_conn.proofs.ClientEnd.MatchedLemmas.{answers_grow}
+use Rattle.ua_conn.proofs.ClientEnd.CommandLemmas.{answers_stay}
 use Rattle.ua_conn.proofs.BothEnds.EndLemmas.{ends_reply, endings, replies_end, frames_end}
 use Rattle.ua_conn.proofs.BothEnds.FaithfulLemmas.{prefix_trans}
-use Rattle.ua_conn.proofs.BothEnds.FrameListLemmas.{newest_append}
 use Rattle.ua_conn.proofs.BothEnds.InvariantForms.{BearsAll}
 use Rattle.ua_conn.proofs.BothEnds.OnTheWayLemmas.{frames_replied, Are, past_of}
 use Rattle.ua_conn.proofs.BothEnds.OrderLemmas.{order_front, order_requests, requests_served, answers_go, served_go, requests_begin, answers_end}
@@ -39,13 +39,6 @@ order_longer s xs ys vs [] h = tt
 order_longer s [] ys vs (i ∷ is) h = elim h [ ]
 order_longer s (x ∷ xs) ys [] (i ∷ is) h = elim h [ ]
 order_longer s (x ∷ xs) ys (v ∷ vs) (i ∷ is) h = (h.0, order_longer s xs ys vs is h.1)
-
--- there are no more answers than servings
-pub order_length : (s : Setup) (xs : List Asked) (vs : List Served) (is : List Answer) → AnswersInOrder s xs vs is → length is ≤ length vs
-order_length s xs vs [] h = omega arith
-order_length s [] vs (i ∷ is) h = elim h [ ]
-order_length s (x ∷ xs) [] (i ∷ is) h = elim h [ ]
-order_length s (x ∷ xs) (v ∷ vs) (i ∷ is) h = omega (arith, order_length s xs vs is h.1)
 
 fresh_front : (n : ℕ) (past : Past) (fs : List Frame) → AreFresh n (newest_first fs past) → AreFresh n past
 fresh_front n past [] h = h
@@ -122,7 +115,7 @@ hands_on s cmds xs u b clock bears =
 pub answered_told : (s : Setup) (c : Command) (cmds : Commands) (there : Past) → Answered s cmds there → Answered s (c ∷ cmds) there
 answered_told s c cmds there h rs said is p =
     let old = h rs said is p in (
-      subst (λ zs. AnswersInOrder s (asked_in (c ∷ cmds)) (served_by s.site there) zs) (sym (answers_grow c cmds (past_of rs) old.1))
+      subst (λ zs. AnswersInOrder s (asked_in (c ∷ cmds)) (served_by s.site there) zs) (sym (answers_stay c cmds (past_of rs) (old.1.ended (next_id cmds) (omega arith))))
           (order_longer s (asked_in cmds) (asked_by (next_id cmds) c.seen c.act) (served_by s.site there) (answers cmds (past_of rs)) old.0),
       fresh_later (next_id cmds) (next_id (c ∷ cmds)) (past_of rs) (omega arith) old.1,
     )

@@ -20,7 +20,7 @@ use Rattle.ua_service.specs.Requests.{IsRequest, canon_request}
 use Rattle.ua_service.specs.ValueLaws.{request_read}
 use Rattle.ua_conn.specs.Past.{Past, Agreed, agreed, known, is_open, tokens_by, tokens_in}
 use Rattle.ua_conn.specs.server.Answers.{answer_body}
-use Rattle.ua_conn.specs.server.Replies.{Reply, Answer as AnswerPart, numbered_after, more_numbered, answer_parts, is_over_limits, replies}
+use Rattle.ua_conn.specs.server.Replies.{Answer as AnswerPart, numbered_after, answer_parts, is_over_limits, replies}
 use Rattle.ua_conn.specs.server.Held.{newest_first}
 use Rattle.ua_conn.specs.client.Asker.{hello_by}
 use Rattle.ua_conn.specs.client.Commands.{Ask, Command, Commands, Asked, asked_in, opens_asked, next_id}
@@ -30,6 +30,7 @@ use Rattle.ua_conn.specs.client.Reading.{answers}
 use Rattle.ua_conn.specs.BothEnds.{IsSetup, AllAfter, Served, served_by, expected, AnswersInOrder}
 use Rattle.ua_conn.specs.Story.{Setup}
 use Rattle.ua_conn.specs.declared.client.answer.Answer.{Answer}
+use Rattle.ua_conn.proofs.ServerEnd.NumberLemmas.{numbered_append}
 use Rattle.ua_conn.proofs.BothEnds.OnTheWayLemmas.{Sound, Accepts}
 use Rattle.ua_conn.proofs.ClientEnd.FreshLemmas.{AreFresh, unlike}
 use Rattle.ua_conn.proofs.BothEnds.SpokenAnswerLemmas.{answer_arrives, answer_aborted}
@@ -146,10 +147,6 @@ replied_some a id body bytes parts send = by (is_over_limits a body) refl
     by true e = omega (arith, ap length (answer_aborted a id body e))
     by false e = arrives_some a.answer_bytes a.answer_parts id body None (answer_parts a id body) (answer_arrives a id body e bytes parts send)
 
-pub numbered_join : (n : ℕ) (rs qs : List Reply) → numbered_after n (rs ++ qs) ≡ numbered_after (numbered_after n rs) qs
-numbered_join n [] qs = refl
-numbered_join n (r ∷ rs) qs = numbered_join (more_numbered n r) rs qs
-
 numbered_parts : (n token : ℕ) (parts : List Part) → numbered_after n (map (AnswerPart token) parts) ≡ n + length parts
 numbered_parts n token [] = omega arith
 numbered_parts n token (p ∷ parts) = numbered_parts (n + 1) token parts ∙ omega arith
@@ -232,7 +229,7 @@ ask_keeps s cmds request part now seen o n sent said there here qs ns h fit some
         next = subst (λ m. follows_last (Some (number_after s.asker.first_sequence (sent + length parts - 1))) (number_after s.asker.first_sequence m) ≡ true) (omega (arith, whole)) (each_follows s.asker.first_sequence (sent + length parts - 1) h.asker.first_least);
         many = ap length took.issued ∙ hold.many;
         within = omega (arith, greatest);
-        said_is = ap (numbered_after 0) took.says ∙ numbered_join 0 (replies s.site there) (map (AnswerPart (most hold.used o)) replied) ∙ numbered_parts (numbered_after 0 (replies s.site there)) (most hold.used o) replied
+        said_is = ap (numbered_after 0) took.says ∙ numbered_append 0 (replies s.site there) (map (AnswerPart (most hold.used o)) replied) ∙ numbered_parts (numbered_after 0 (replies s.site there)) (most hold.used o) replied
             ∙ ap (λ m. m + length replied) hold.said_is;
         hears_is = got.stands.known ∙ ap (λ ts. hears a.ack s.site.channel (two_newest ts) (Some (number_after 1 (said + length replied - 1))) None) (sym got.stands.granted);
         next_here = subst (λ m. follows_last (Some (number_after 1 (said + length replied - 1))) (number_after 1 m) ≡ true) (omega (arith, any)) (each_follows 1 (said + length replied - 1) (omega arith));

@@ -13,7 +13,7 @@ use Rattle.ua_conn.specs.client.Commands.{Act, Ask, Renew, Close, Commands}
 use Rattle.ua_conn.specs.client.Past.{granted_in}
 use Rattle.ua_conn.specs.client.Reading.{client_reading_of, client_fault}
 use Rattle.ua_conn.specs.client.Sending.{Sent, sent_by}
-use Rattle.ua_conn.specs.client.Asking.{InFlight, ask_fault}
+use Rattle.ua_conn.specs.client.Asking.{ask_fault}
 use Rattle.ua_conn.specs.Story.{Setup, World, begun, client_stream, server_stream, delivered, told_by, came_by, happens, run, final}
 use Rattle.ua_conn.specs.BothEnds.{IsSetup, IsLive, IsStep, IsSchedule}
 use Rattle.ua_conn.specs.declared.outcome.End.{End}
@@ -64,15 +64,15 @@ unasked_calm s h w i e =
 
 -- ---- a command
 
-stage_told : (flight : InFlight) (s : Setup) → IsSetup s → (w : World) → Base s w → (act : Act) → IsAct act → ask_fault flight s.asker w.cmds w.down act ≡ None → Stage s w.cmds w.up w.down → Stage s (given w act ∷ w.cmds) w.up w.down
-stage_told flight s h w i act is e (unasked none) =
+stage_told : (s : Setup) → IsSetup s → (w : World) → Base s w → (act : Act) → IsAct act → ask_fault s.asker w.cmds w.down act ≡ None → Stage s w.cmds w.up w.down → Stage s (given w act ∷ w.cmds) w.up w.down
+stage_told s h w i act is e (unasked none) =
     let past = here_of s w in
-    let f = accepted_acked flight s.asker w.cmds w.down act e in
+    let f = accepted_acked s.asker w.cmds w.down act e in
     let core = subst (λ cs. Core s cs (come s w) (sent_by s.asker cs past) w.up) (sym none) (first_core s h (come s w) past f.0 w.up (here_timely s h w i) f.1) in
     let calm = unasked_calm s h w i none in
-    going calm (core_told flight s h w i act is e calm core)
-stage_told flight s h w i act is e (going calm core) = going calm (core_told flight s h w i act is e calm core)
-stage_told flight s h w i act is e (stopped status f dead order hands) =
+    going calm (core_told s h w i act is e calm core)
+stage_told s h w i act is e (going calm core) = going calm (core_told s h w i act is e calm core)
+stage_told s h w i act is e (stopped status f dead order hands) =
     let there = (reading_of s.site w.up).past in
     stopped status f dead (answered_told s (given w act) w.cmds there order) (hands_told s (given w act) w.cmds there hands)
 
@@ -175,28 +175,28 @@ stage_down s w t i (going calm core) = by i.flow.started
 
 -- ---- every schedule
 
-told_stage : (flight : InFlight) (s : Setup) → IsSetup s → (w : World) → Inv s w → (act : Act) → IsAct act → (o : Option AskFault) → ask_fault flight s.asker w.cmds w.down act ≡ o
+told_stage : (s : Setup) → IsSetup s → (w : World) → Inv s w → (act : Act) → IsAct act → (o : Option AskFault) → ask_fault s.asker w.cmds w.down act ≡ o
     → (let w2 = told_by w act o in Stage s w2.cmds w2.up w2.down)
-told_stage flight s h w i act is (Some fault) e = i.stage
-told_stage flight s h w i act is None e = stage_told flight s h w i.base act is e i.stage
+told_stage s h w i act is (Some fault) e = i.stage
+told_stage s h w i act is None e = stage_told s h w i.base act is e i.stage
 
 came_stage : (s : Setup) (w : World) (t : List TimedByte) (o : Option ClientFault) → Inv s w → (let w2 = came_by w (w.down ++ t) o in Stage s w2.cmds w2.up w2.down)
 came_stage s w t (Some fault) i = stage_down s w t i.base i.stage
 came_stage s w t None i = stage_down s w t i.base i.stage
 
-stage_kept : (flight : InFlight) (s : Setup) → IsSetup s → (w : World) → Inv s w → (e : Step) → IsStep e → (let w2 = happens flight s w e in Stage s w2.cmds w2.up w2.down)
-stage_kept flight s h w i (steps.Ask request part) is = told_stage flight s h w i (Ask request part) is (ask_fault flight s.asker w.cmds w.down (Ask request part)) refl
-stage_kept flight s h w i steps.Renew is = told_stage flight s h w i Renew tt (ask_fault flight s.asker w.cmds w.down Renew) refl
-stage_kept flight s h w i steps.Close is = told_stage flight s h w i Close tt (ask_fault flight s.asker w.cmds w.down Close) refl
-stage_kept flight s h w i (steps.Tick n) is = i.stage
-stage_kept flight s h w i (steps.Up n) is =
-    stage_up s h w (map (at (moment_of w.clock)) (take n (drop (length w.up) (client_stream s w)))) (base_kept flight s h w (steps.Up n) i.base) i.stage
-stage_kept flight s h w i (steps.Down n) is =
+stage_kept : (s : Setup) → IsSetup s → (w : World) → Inv s w → (e : Step) → IsStep e → (let w2 = happens s w e in Stage s w2.cmds w2.up w2.down)
+stage_kept s h w i (steps.Ask request part) is = told_stage s h w i (Ask request part) is (ask_fault s.asker w.cmds w.down (Ask request part)) refl
+stage_kept s h w i steps.Renew is = told_stage s h w i Renew tt (ask_fault s.asker w.cmds w.down Renew) refl
+stage_kept s h w i steps.Close is = told_stage s h w i Close tt (ask_fault s.asker w.cmds w.down Close) refl
+stage_kept s h w i (steps.Tick n) is = i.stage
+stage_kept s h w i (steps.Up n) is =
+    stage_up s h w (map (at (moment_of w.clock)) (take n (drop (length w.up) (client_stream s w)))) (base_kept s h w (steps.Up n) i.base) i.stage
+stage_kept s h w i (steps.Down n) is =
     came_stage s w (map (at (moment_of w.clock)) (take n (drop (length w.down) (server_stream s w)))) (client_fault s.asker w.cmds (delivered w.clock w.down n (server_stream s w))) i
 
-inv_run : (flight : InFlight) (s : Setup) → IsSetup s → (es : List Step) (w : World) → Inv s w → IsSchedule es → Inv s (run flight s w es)
-inv_run flight s h [] w i is = i
-inv_run flight s h (e ∷ es) w i is = inv_run flight s h es (happens flight s w e) (record { base = base_kept flight s h w e i.base; stage = stage_kept flight s h w i e is.0 }) is.1
+inv_run : (s : Setup) → IsSetup s → (es : List Step) (w : World) → Inv s w → IsSchedule es → Inv s (run s w es)
+inv_run s h [] w i is = i
+inv_run s h (e ∷ es) w i is = inv_run s h es (happens s w e) (record { base = base_kept s h w e i.base; stage = stage_kept s h w i e is.0 }) is.1
 
-pub inv : (flight : InFlight) (s : Setup) → IsSetup s → (schedule : List Step) → IsSchedule schedule → Inv s (final flight s schedule)
-inv flight s h schedule is = inv_run flight s h schedule (begun s) (record { base = base_begun flight s h; stage = unasked refl }) is
+pub inv : (s : Setup) → IsSetup s → (schedule : List Step) → IsSchedule schedule → Inv s (final s schedule)
+inv s h schedule is = inv_run s h schedule (begun s) (record { base = base_begun s h; stage = unasked refl }) is

@@ -12,7 +12,8 @@ use Rattle.ua_chunk.specs.FrameLaws.{number_fits}
 use Rattle.ua_channel.specs.Token.{newest_id, next_token, two_newest}
 use Rattle.ua_channel.specs.Admission.{awaited_channel, awaited_type}
 use Rattle.ua_channel.specs.Channel.{most}
-use Rattle.ua_service.specs.ValueLaws.{open_request_at, open_request_read, open_request_length, close_request_at, close_request_read, close_request_length}
+use Rattle.ua_service.specs.Channel.{open_request_at, close_request_at}
+use Rattle.ua_service.specs.ValueLaws.{open_request_read, open_request_length, close_request_read, close_request_length}
 use Rattle.ua_conn.specs.server.Site.{Site}
 use Rattle.ua_conn.specs.Past.{Past, agreed, is_open, tokens_in}
 use Rattle.ua_conn.specs.server.Answers.{opened_body}
@@ -25,6 +26,7 @@ use Rattle.ua_conn.specs.client.Pending.{bytes_in, is_among, ended_ids, opened_i
 use Rattle.ua_conn.specs.client.Reading.{answers}
 use Rattle.ua_conn.specs.BothEnds.{IsSetup, served_by, AnswersInOrder}
 use Rattle.ua_conn.specs.Story.{Setup}
+use Rattle.ua_conn.proofs.ServerEnd.NumberLemmas.{numbered_append}
 use Rattle.ua_conn.proofs.ServerEnd.KnownLemmas.{newest, take_twice}
 use Rattle.ua_conn.proofs.ClientEnd.FreshLemmas.{unlike}
 use Rattle.ua_conn.proofs.BothEnds.SpokenLemmas.{Opens, Closes, spell, is_read}
@@ -36,7 +38,7 @@ use Rattle.ua_conn.proofs.BothEnds.SpokenTableLemmas.{hears}
 use Rattle.ua_conn.proofs.BothEnds.OpeningWalkLemmas.{token_here, renewal_got}
 use Rattle.ua_conn.proofs.ClientEnd.CommandLemmas.{answers_stay, new_due}
 use Rattle.ua_conn.proofs.BothEnds.ServerWalkLemmas.{Took, taken_took, open_any, more_tokens, close_took}
-use Rattle.ua_conn.proofs.BothEnds.HoldLemmas.{ids_of, some_two, names_known, most_is, numbered_join, Hold, Keeps, tokens_count}
+use Rattle.ua_conn.proofs.BothEnds.HoldLemmas.{ids_of, some_two, names_known, most_is, Hold, Keeps, tokens_count}
 
 -- ---- open requests that are answered
 
@@ -127,7 +129,7 @@ renew_keeps s cmds now seen o n sent said there here q x h some few unspent cloc
         next = each_follows s.asker.first_sequence sent h.asker.first_least;
         many = ap length took.issued ∙ omega (arith, hold.many);
         within = hold.within;
-        said_is = ap (numbered_after 0) took.says ∙ numbered_join 0 (replies s.site there) (Opened id (opened_body id q.moment s.site.channel token) ∷ []) ∙ ap (λ m. m + 1) hold.said_is;
+        said_is = ap (numbered_after 0) took.says ∙ numbered_append 0 (replies s.site there) (Opened id (opened_body id q.moment s.site.channel token) ∷ []) ∙ ap (λ m. m + 1) hold.said_is;
         hears_is = got.stands.known ∙ ap (λ ts. hears a.ack s.site.channel ts (Some (number_after 1 said)) None) (take_twice mine (granted_in here) ∙ ap two_newest (sym got.stands.granted));
         next_here = each_follows 1 said (omega arith);
         tokens = ap ids_of got.stands.granted ∙ ap (λ l. token.id ∷ l) hold.tokens ∙ ap ids_of (sym took.issued);

@@ -14,7 +14,7 @@ use Rattle.ua_conn.specs.client.Commands.{Commands}
 use Rattle.ua_conn.specs.client.Past.{client_known}
 use Rattle.ua_conn.specs.client.Pending.{bytes_in, due_at, wanted_at}
 use Rattle.ua_conn.specs.client.Faults.{client_fault_by}
-use Rattle.ua_conn.specs.client.Sending.{Sent, sent_bytes, more_sent, sent_all}
+use Rattle.ua_conn.specs.client.Sending.{Sent, sent_bytes, more_sent}
 
 -- ---- frames as bytes
 
@@ -25,10 +25,6 @@ frames_sent first n (x ∷ xs) = sent_bytes (number_after first n) x ∷ frames_
 abbrev pub frames_replied : Site → ℕ → List Reply → List (List ℕ)
 frames_replied site n [] = []
 frames_replied site n (r ∷ rs) = spelled site (number_after 1 n) r ∷ frames_replied site (more_numbered n r) rs
-
-pub sent_joined : (first n : ℕ) (xs : List Sent) → flat_map (λ f. f) (frames_sent first n xs) ≡ sent_all first n xs
-sent_joined first n [] = refl
-sent_joined first n (x ∷ xs) = ap (λ b. sent_bytes (number_after first n) x ++ b) (sent_joined first (more_sent n x) xs)
 
 pub replied_joined : (site : Site) (n : ℕ) (rs : List Reply) → flat_map (λ f. f) (frames_replied site n rs) ≡ spelled_all site n rs
 replied_joined site n [] = refl

@@ -8,7 +8,8 @@ use Rattle.ua_chunk.specs.Numbers.{number_after}
 use Rattle.ua_chunk.specs.NumberLaws.{each_follows}
 use Rattle.ua_chunk.specs.FrameLaws.{number_fits}
 use Rattle.ua_channel.specs.Token.{next_token, two_newest}
-use Rattle.ua_service.specs.ValueLaws.{open_request_at, open_request_read, open_request_length}
+use Rattle.ua_service.specs.Channel.{open_request_at}
+use Rattle.ua_service.specs.ValueLaws.{open_request_read, open_request_length}
 use Rattle.ua_conn.specs.server.Site.{Site}
 use Rattle.ua_conn.specs.Past.{agreed, is_open}
 use Rattle.ua_conn.specs.server.Answers.{opened_body}

@@ -28,10 +28,10 @@ use Rattle.ua_conn.specs.client.Machine.{client_known_after, or_ack}
 use Rattle.ua_conn.specs.client.Reading.{answer_at, answers, result_by, answer_with}
 use Rattle.ua_conn.specs.BothEnds.{IsSetup}
 use Rattle.ua_conn.specs.Story.{Setup}
+use Rattle.ua_conn.proofs.ServerEnd.LengthLemmas.{opened_length}
 use Rattle.ua_conn.proofs.ClientEnd.KnownLemmas.{client_known_step}
 use Rattle.ua_conn.proofs.BothEnds.SpokenLemmas.{Acknowledges, Opens, spell, length-spell, IsRead, is_read}
 use Rattle.ua_conn.proofs.BothEnds.SpokenAnswerLemmas.{opened_read, agreed_value}
-use Rattle.ua_conn.proofs.BothEnds.SpokenReplyLemmas.{opened_length}
 use Rattle.ua_conn.proofs.BothEnds.SpokenTableLemmas.{unacknowledged, hears, acknowledge_heard, opened_heard}
 use Rattle.ua_conn.proofs.BothEnds.ClientWalkLemmas.{Stands, Got, got_more, ended_more, opened_more, granted_more}
 

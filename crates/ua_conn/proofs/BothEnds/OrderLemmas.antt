@@ -16,7 +16,7 @@ use Rattle.ua_conn.specs.Story.{Setup}
 use Rattle.ua_conn.specs.BothEnds.{Served, served_by, AnswersOne, AnswersInOrder}
 use Rattle.ua_conn.specs.declared.client.answer.Answer.{Answer}
 use Rattle.ua_conn.specs.declared.client.answer.AnswerResult.{AnswerResult}
-use Rattle.ua_conn.proofs.ClientEnd.MatchedLemmas.{answer_quiet}
+use Rattle.ua_conn.proofs.ClientEnd.CommandLemmas.{answer_quiet}
 
 -- ---- in order
 

@@ -1,17 +1,16 @@
 -- The premises of the law of both ends can be met: a worked story meets each.
 use Rattle.std.proofs.Common.{arith, ◌≡◌, ℕ, true, false, List, [], ◌∷◌, ◌++◌, length, refl}
-use Rattle.std.specs.Prelude.{pos, codes}
+use Rattle.std.specs.Prelude.{pos, codes, ◌≤◌, IsUtf8}
 use Rattle.std.specs.Str.{is_utf8, chars, bytes_eq}
 use lib.Utf8.{encode}
-use Rattle.ua_value.specs.Number.{unsigned}
-use Rattle.ua_value.specs.Text.{bytes_of}
+use Rattle.ua_value.specs.Number.{unsigned, signed}
+use Rattle.ua_value.specs.Text.{bytes_of, longest}
 use Rattle.ua_frame.specs.Streams.{cuts_within, rest_within, size_of, plain}
 use Rattle.ua_frame.specs.Layout.{kind_of}
 use Rattle.ua_frame.specs.Hello.{hello_layout, acknowledge_layout, error_layout}
 use Rattle.ua_chunk.specs.Layout.{open_header, chunk_header, abort_body, open_chunk_of, chunk_of, abort_of}
 use Rattle.ua_chunk.specs.Cut.{fill}
 use Rattle.ua_chunk.specs.Written.{open_frame, chunk_frame}
-use Rattle.ua_value.specs.Number.{signed}
 use Rattle.ua_value.specs.Node.{node_id}
 use Rattle.ua_value.specs.Date.{date_time}
 use Rattle.ua_value.specs.Localized.{localized_text}
@@ -23,7 +22,7 @@ use Rattle.ua_variant.specs.DiagnosticParts.{diagnostic_parts}
 use Rattle.ua_service.specs.Message.{message}
 use Rattle.ua_service.specs.Requests.{request_of}
 use Rattle.ua_service.specs.Responses.{response_of}
-use Rattle.ua_service.specs.Headers.{request_header, response_header, service_fault}
+use Rattle.ua_service.specs.Headers.{request_header_at, request_header, response_header, service_fault}
 use Rattle.ua_service.specs.Channel.{open_request, open_response, close_request}
 use Rattle.ua_service.specs.Discovery.{find_servers_request, find_servers_response, get_endpoints_request, get_endpoints_response}
 use Rattle.ua_service.specs.Application.{application_description}
@@ -36,17 +35,13 @@ use Rattle.ua_conn.specs.server.Replies.{reply_to, handed_at, spelled}
 use Rattle.ua_conn.specs.client.Past.{client_known}
 use Rattle.ua_conn.specs.client.Faults.{client_fault_by, client_fault_in_rest}
 use Rattle.ua_conn.specs.client.Reading.{answer_at}
-use Rattle.ua_conn.specs.client.Questions.{request_header_at, open_asked_body, close_asked_body}
+use Rattle.ua_conn.specs.client.Questions.{open_asked_body, close_asked_body}
 use Rattle.ua_conn.specs.client.Sending.{sent_bytes}
-use Rattle.ua_conn.specs.BothEnds.{expected}
-use Rattle.ua_conn.specs.Story.{World}
+use Rattle.ua_conn.specs.BothEnds.{expected, IsConfig, IsSetup, IsSchedule, TokensLive}
+use Rattle.ua_conn.specs.Story.{World, client_stream, server_stream}
 use Rattle.ua_conn.specs.declared.schedule.Step.{Step}
 use Rattle.ua_conn.specs.declared.schedule.Step.TheVariants.{Ask, Up, Down}
 use Rattle.std.proofs.lemmas.Str.{IsUtf8-from_is_utf8}
-use Rattle.std.specs.Prelude.{◌≤◌, IsUtf8}
-use Rattle.ua_value.specs.Text.{longest}
-use Rattle.ua_conn.specs.BothEnds.{IsConfig, IsSetup, IsSchedule, TokensLive}
-use Rattle.ua_conn.specs.Story.{client_stream, server_stream}
 use Rattle.ua_conn.proofs.BothEnds.WorkedStories.{asker, plain_setup, find, world_of, opening_steps}
 use Rattle.ua_conn.proofs.BothEnds.SettingsLemmas.{settings_are}
 

@@ -4,7 +4,7 @@ use Rattle.std.proofs.Common.{◌≡◌, ℕ, ◌+◌, ◌≤◌, Bool, true, fa
 use Rattle.std.specs.Prelude.{◌==◌, ◌&&◌, not}
 use Rattle.std.specs.List.{filter, find}
 use Rattle.std.proofs.lemmas.List.{length-append, length-map}
-use Rattle.std.proofs.lemmas.Bool.{le-leb, ne_eqb, eqb-true, or_parts}
+use Rattle.std.proofs.lemmas.Bool.{ne_eqb, eqb-true, or_parts, not-false}
 use Rattle.ua_frame.specs.Streams.{TimedByte}
 use Rattle.ua_frame.specs.Layout.{Frame, frames_of, kind_of, flag_of}
 use Rattle.ua_frame.specs.declared.kind.Kind.TheVariants as kinds
@@ -20,29 +20,24 @@ use Rattle.ua_conn.specs.client.Past.{ClientKnown, client_known, ack_by, acknowl
 use Rattle.ua_conn.specs.client.Pending.{bytes_in, come_by, due_at, wanted_at}
 use Rattle.ua_conn.specs.client.Faults.{client_rows, opened_rows}
 use Rattle.ua_conn.specs.BothEnds.{AllAfter}
-use Rattle.ua_conn.proofs.ClientEnd.FreshLemmas.{AllNo, all_no, is_open_tells, not_false, rows_of_kind}
-use Rattle.ua_conn.proofs.ClientEnd.PlaceLemmas.{bytes_of_frames}
+use Rattle.ua_conn.proofs.ClientEnd.GainLemmas.{come_by_all}
+use Rattle.ua_conn.proofs.ServerEnd.ReadyLemmas.{newest_append}
+use Rattle.ua_conn.proofs.KindLemmas.{is_open_tells}
+use Rattle.ua_conn.proofs.TableLemmas.{AllNo, all_no}
+use Rattle.ua_conn.proofs.ClientEnd.FreshLemmas.{rows_of_kind}
+use Rattle.ua_conn.proofs.ClientEnd.PlaceLemmas.{bytes_of_frames, grows}
 use Rattle.ua_conn.proofs.BothEnds.AliveLemmas.{client_tokens}
 use Rattle.ua_conn.proofs.BothEnds.ClientWalkLemmas.{granted_more}
 use Rattle.ua_conn.proofs.BothEnds.FaithfulLemmas.{acknowledge_same}
-use Rattle.ua_conn.proofs.BothEnds.FrameListLemmas.{newest_append}
 use Rattle.ua_conn.proofs.BothEnds.HoldLemmas.{ids_of, tokens_count}
 use Rattle.ua_conn.proofs.BothEnds.OnTheWayLemmas.{past_of, Accepts}
 
 -- ---- all that stands had come
 
-place_grows : (fs : List Frame) (past : Past) → bytes_in past ≤ bytes_in (newest_first fs past)
-place_grows [] past = omega arith
-place_grows (f ∷ fs) past = omega (arith, place_grows fs (f ∷ past))
-
-come_all : (n : ℕ) (past : Past) → bytes_in past ≤ n → come_by n past ≡ past
-come_all n [] h = refl
-come_all n (f ∷ past) h = ap (λ b. cond b (f ∷ past) (come_by n past)) (le-leb (bytes_in (f ∷ past)) n h)
-
 pub stands_come : (v : List TimedByte) (hs : List Frame) → IsPrefix hs (frames_of v) → come_by (length v) (past_of hs) ≡ past_of hs
 stands_come v hs p =
     let all : newest_first p.0 (past_of hs) ≡ past_of (frames_of v) = sym (newest_append hs p.0 []) ∙ ap past_of p.1 in
-    come_all (length v) (past_of hs) (omega (arith, place_grows p.0 (past_of hs), ap bytes_in all, bytes_of_frames v))
+    come_by_all (length v) (past_of hs) (omega (arith, grows p.0 (past_of hs), ap bytes_in all, bytes_of_frames v))
 
 -- ---- tokens that came are the older ones of all
 
@@ -123,7 +118,7 @@ channel_stays a cmds past f h some = by (is_open (kind_of f.bytes)) refl
     named (Some opening) n =
         let other = or_parts (opening.channel == 0) (not (length k.tokens == 0) && not (opening.channel == k.channel)) n.0 in
         let differs : not (opening.channel == k.channel) ≡ false = ap (λ b. not b && not (opening.channel == k.channel)) (sym some_tokens) ∙ other.1 in
-        eqb-true opening.channel k.channel (not_false (opening.channel == k.channel) differs) ∙ known_channel past
+        eqb-true opening.channel k.channel (not-false (opening.channel == k.channel) differs) ∙ known_channel past
 
     by : (b : Bool) → is_open (kind_of f.bytes) ≡ b → channel_by (cond b (Some f) (find (λ (g : Frame). is_open (kind_of g.bytes)) past)) ≡ channel_in past
     by true e = named (open_in f) (opened e)

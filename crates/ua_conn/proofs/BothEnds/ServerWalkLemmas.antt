@@ -34,9 +34,8 @@ use Rattle.ua_conn.specs.server.Machine.{known_after}
 use Rattle.ua_conn.specs.server.Effects.{answers}
 use Rattle.ua_conn.specs.server.Parts.{whole_with}
 use Rattle.ua_conn.specs.BothEnds.{AllAfter, Served, served_by}
-use Rattle.ua_conn.proofs.ServerEnd.TableLemmas.{join_none}
+use Rattle.ua_conn.proofs.TableLemmas.{join_none}
 use Rattle.ua_conn.proofs.ServerEnd.KnownLemmas.{known_step, newest}
-use Rattle.ua_conn.proofs.BothEnds.TokenLemmas.{fault_is}
 use Rattle.ua_conn.proofs.BothEnds.OnTheWayLemmas.{Sound}
 use Rattle.ua_conn.proofs.BothEnds.SpokenLemmas.{Spoken, Opens, Tells, Closes, spell, parts_of, IsSized, IsFlagged, IsProper, size_by, spell_passes, IsRead, is_read}
 use Rattle.ua_conn.proofs.BothEnds.SpokenEffectLemmas.{chunk_by, spoken_effect}
@@ -100,6 +99,11 @@ more_tokens site f past channel number id body r h is =
 
 table : Site → Known → Frame → Bool → Option Kind → Option ℕ
 table site k f b kind = or_else (header_fault (greatest_frame k.limits) f.bytes) (first_row (frame_rows_by site k f b kind (flag_of f.bytes)))
+
+-- the table, with what is said of the token apart
+pub fault_is : (site : Site) (k : Known) (f : Frame) → fault_at site k f ≡ fault_by site k f (names_usable k f)
+unfolding fault_at fault_by
+fault_is site k f = refl
 
 table_is : (site : Site) (k : Known) (f : Frame) (b : Bool) → fault_by site k f b ≡ table site k f b (kind_of f.bytes)
 unfolding fault_by table

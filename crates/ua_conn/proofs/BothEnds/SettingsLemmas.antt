@@ -1,4 +1,4 @@
--- What is asked of settings and of a client can be met.
+-- What is asked of settings can be met.
 use Rattle.std.proofs.Common.{◌≡◌, ℕ, ◌≤◌, true, List, length, Some, None, refl, arith, lit<, lit≤}
 use Rattle.std.specs.Prelude.{pos, codes}
 use Rattle.std.proofs.lemmas.Int.{ints}
@@ -13,7 +13,6 @@ use Rattle.ua_service.specs.Endpoint.{user_token_policy}
 use Rattle.ua_disco.specs.Bounds.{IsConfiguration}
 use Rattle.ua_disco.specs.Values.{IsApplicationValue, IsEndpointValue, AreSettings}
 use Rattle.ua_conn.proofs.Vectors.{settings, endpoint}
-use Rattle.ua_conn.proofs.BothEnds.SpokenSessionLemmas.{IsClient}
 
 text_value : (text : List ℕ) → length text ≤ 2147483647 → is_utf8 text ≡ true → string.IsValue (Some text)
 unfolding bytes_of
@@ -62,19 +61,3 @@ endpoint_is = record {
 -- the settings of the worked rows
 pub settings_are : AreSettings settings
 settings_are = record { bounds = bounds; application = application_is; endpoints = (endpoint_is, tt) }
-
--- a client that takes frames of 65535 bytes, answers of 1048576 bytes in 64 parts, and asks for an hour
-pub client_is : IsClient 65535 1048576 64 3600000 1 (Some (codes "opc.tcp://localhost:4840"))
-unfolding is_utf8 chars encode
-client_is = record {
-  least = lit≤ tt;
-  most = lit≤ tt;
-  message_least = lit≤ tt;
-  message_most = lit< tt;
-  chunks_least = lit≤ tt;
-  chunks_most = lit< tt;
-  lifetime_fits = lit< tt;
-  first_some = lit≤ tt;
-  url_short = refl;
-  url_text = text_value (codes "opc.tcp://localhost:4840") (lit≤ tt) refl;
-}

@@ -1,10 +1,10 @@
 -- The frames of a reply, as values: each is a frame, and no greater than what the client takes, whatever came before.
-use Rattle.std.proofs.Common.{◌≡◌, ℕ, ◌+◌, ◌<◌, ◌≤◌, ◌^◌, max, Bool, true, false, cond, List, [], ◌∷◌, ◌++◌, map, length, Option, Some, None, refl, sym, ap, subst, ◌∙◌, arith}
+use Rattle.std.proofs.Common.{◌≡◌, ℕ, ◌+◌, ◌<◌, ◌≤◌, ◌^◌, max, Bool, true, false, cond, List, [], ◌∷◌, ◌++◌, map, length, Option, Some, None, refl, sym, subst, ◌∙◌, arith}
 use Rattle.std.specs.Prelude.{IfSome, option_map}
 use Rattle.std.specs.List.{AllByRecursion}
 use Rattle.ua_frame.specs.Streams.{TimedByte, plain}
 use Rattle.ua_frame.specs.Layout.{Frame, kind_of}
-use Rattle.ua_frame.specs.HeaderRows.{flag_fits, header_fault}
+use Rattle.ua_frame.specs.HeaderRows.{flag_fits}
 use Rattle.ua_frame.specs.Beginnings.{joined}
 use Rattle.ua_frame.specs.declared.kind.Kind.{Kind}
 use Rattle.ua_frame.specs.declared.kind.Kind.TheVariants as kinds
@@ -17,16 +17,15 @@ use Rattle.ua_channel.specs.Token.{next_token}
 use Rattle.ua_channel.specs.Channel.{most}
 use Rattle.ua_service.specs.declared.channel.OpenRequest.{OpenRequest}
 use Rattle.ua_service.specs.declared.request.Request.{Request}
-use Rattle.ua_service.specs.ValueLaws.{open_response_length}
-use Rattle.ua_channel.specs.declared.token.Token.{Token}
 use Rattle.ua_conn.specs.server.Site.{Site}
-use Rattle.ua_conn.specs.server.Answers.{opened_body, answer_body}
+use Rattle.ua_conn.specs.server.Answers.{answer_body}
 use Rattle.ua_conn.specs.Past.{Past, Agreed, Known, known, is_hello, hello_in, open_in, carried, asked_open, agreed, limits_of, limits_in}
-use Rattle.ua_conn.specs.server.Replies.{Reply, Acknowledge, Opened, Answer, Failed, spelled, more_numbered, numbered_after, spelled_all, part_size, is_over_limits, aborted, answer_parts, answer_to, opened_by, acknowledged, reply_by, reply_to, whole_request, replies, failing, reply_bytes, end_of, reading_of}
+use Rattle.ua_conn.specs.server.Replies.{Reply, Acknowledge, Opened, Answer, Failed, spelled, more_numbered, spelled_all, part_size, is_over_limits, aborted, answer_parts, answer_to, opened_by, acknowledged, reply_by, reply_to, whole_request, replies, failing, reply_bytes, end_of, reading_of}
 use Rattle.ua_conn.specs.declared.outcome.End.{End}
 use Rattle.ua_conn.specs.declared.outcome.End.TheVariants.{Refused}
 use Rattle.ua_conn.specs.server.Feeding.{replies_of}
-use Rattle.ua_conn.proofs.BothEnds.SpokenLemmas.{Spoken, Acknowledges, Fails, Opens, Tells, spell, IsSized, IsFlagged, size_by, spell_passes, AreSized, spelled_list, BeginsSpoken, begins_spoken}
+use Rattle.ua_conn.proofs.ServerEnd.LengthLemmas.{opened_length}
+use Rattle.ua_conn.proofs.BothEnds.SpokenLemmas.{Spoken, Acknowledges, Fails, Opens, Tells, spell, IsSized, AreSized, spelled_list, BeginsSpoken, begins_spoken}
 
 -- ---- with their numbers
 
@@ -52,10 +51,6 @@ pub replies_spelled : (site : Site) (n : ℕ) (rs : List Reply) → spelled_all 
 replies_spelled site n [] = refl
 replies_spelled site n (r ∷ rs) = λ i. reply_spelled site (number_after 1 n) r i ++ replies_spelled site (more_numbered n r) rs i
 
-pub replies_spoken_append : (site : Site) (n : ℕ) (rs qs : List Reply) → replies_spoken site n (rs ++ qs) ≡ replies_spoken site n rs ++ replies_spoken site (numbered_after n rs) qs
-replies_spoken_append site n [] qs = refl
-replies_spoken_append site n (r ∷ rs) qs = ap (λ xs. reply_spoken site (number_after 1 n) r ∷ xs) (replies_spoken_append site (more_numbered n r) rs qs)
-
 -- ---- how large they are
 
 -- no greater than the limit, and flagged as its type is
@@ -71,10 +66,6 @@ AllFit limit rs = AllByRecursion (Fits limit) rs
 all_both : (limit : ℕ) (rs qs : List Reply) → AllFit limit rs → AllFit limit qs → AllFit limit (rs ++ qs)
 all_both limit [] qs h k = k
 all_both limit (r ∷ rs) qs h k = (h.0, all_both limit rs qs h.1 k)
-
-pub opened_length : (handle now channel : ℕ) (token : Token) → length (opened_body handle now channel token) ≡ 56
-unfolding opened_body
-opened_length handle now channel token = open_response_length now handle channel token.id token.lifetime
 
 -- the agreed send limit holds the parts of an answer, and so does a larger one
 parts_fit : (limit token id k : ℕ) (body : List ℕ) (parts : List Part) → 24 + k ≤ limit → AllByRecursion (IsPartOf id k) parts → AllFit limit (map (Answer token) parts)
@@ -169,22 +160,6 @@ reply_sized site n limit (Failed status) lt h = tt
 pub replies_sized : (site : Site) (n limit : ℕ) (rs : List Reply) → limit < 2 ^ 32 → AllFit limit rs → AreSized (replies_spoken site n rs)
 replies_sized site n limit [] lt h = tt
 replies_sized site n limit (r ∷ rs) lt h = (reply_sized site (number_after 1 n) limit r lt h.0, replies_sized site (more_numbered n r) limit rs lt h.1)
-
-reply_flagged : (site : Site) (n limit : ℕ) (r : Reply) → Fits limit r → IsFlagged (reply_spoken site n r)
-reply_flagged site n limit (Acknowledge ack) h = refl
-reply_flagged site n limit (Opened id body) h = refl
-reply_flagged site n limit (Answer token part) h = h.1
-reply_flagged site n limit (Failed status) h = refl
-
-reply_size : (site : Site) (n limit : ℕ) (r : Reply) → Fits limit r → size_by (reply_spoken site n r) ≤ limit
-reply_size site n limit (Acknowledge ack) h = h
-reply_size site n limit (Opened id body) h = h
-reply_size site n limit (Answer token part) h = h.0
-reply_size site n limit (Failed status) h = h
-
--- in none of which a header row holds
-pub reply_passes : (site : Site) (n limit : ℕ) (r : Reply) → limit < 2 ^ 32 → Fits limit r → header_fault limit (spell (reply_spoken site n r)) ≡ None
-reply_passes site n limit r lt h = spell_passes limit (reply_spoken site n r) (reply_sized site n limit r lt h) (reply_flagged site n limit r h) (reply_size site n limit r h)
 
 -- What came of a reply: its first frames, and less than the next. It needs nothing of what was asked.
 pub reply_begins : (site : Site) (u v : List TimedByte) (more : List ℕ) → site.settings.limits.send < 2 ^ 32 → plain v ++ more ≡ reply_bytes site u → BeginsSpoken v (replies_spoken site 0 (replies_of site u))

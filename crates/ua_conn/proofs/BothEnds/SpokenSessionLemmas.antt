@@ -1,27 +1,24 @@
--- What a server makes of what our client sends: the opening, a renewal, a close, with bodies as they are written.
-use Rattle.std.proofs.Common.{◌≡◌, ℕ, ◌<◌, ◌≤◌, ◌^◌, true, false, cond, List, [], ◌∷◌, Option, Some, None, refl, sym, ap, subst, arith, lit<}
-use Rattle.std.specs.Prelude.{pos}
+-- What a server makes of the opening that our client sends, with bodies as they are written.
+use Rattle.std.proofs.Common.{◌≡◌, ℕ, ◌<◌, ◌≤◌, ◌^◌, false, List, [], ◌∷◌, Option, Some, None, refl, sym, subst, arith, lit<}
 use Rattle.ua_value.specs.Number.{unsigned}
 use Rattle.ua_value.specs.Text.{string}
-use Rattle.ua_frame.specs.Layout.{Frame, kind_of}
+use Rattle.ua_frame.specs.Layout.{Frame}
 use Rattle.ua_frame.specs.Hello.{hello_layout, is_long}
 use Rattle.ua_frame.specs.declared.hello.Hello.{Hello}
 use Rattle.ua_chunk.specs.Numbers.{number_after}
 use Rattle.ua_chunk.specs.FrameLaws.{number_fits}
-use Rattle.ua_channel.specs.declared.token.Token.{Token}
-use Rattle.ua_channel.specs.Token.{next_token, is_usable}
-use Rattle.ua_channel.specs.Admission.{follows_last, awaited_channel, awaited_type}
+use Rattle.ua_channel.specs.Token.{next_token}
 use Rattle.ua_service.specs.ChannelMessages.{open_message, close_message}
-use Rattle.ua_service.specs.ValueLaws.{open_request_at, open_request_read, open_request_length, close_request_at, close_request_read, close_request_length}
+use Rattle.ua_service.specs.Channel.{open_request_at, close_request_at}
+use Rattle.ua_service.specs.ValueLaws.{open_request_read, open_request_length}
 use Rattle.ua_disco.specs.Bounds.{IsLimits}
 use Rattle.ua_conn.specs.server.Site.{Site}
 use Rattle.ua_conn.specs.server.Answers.{opened_body}
-use Rattle.ua_conn.specs.Past.{Agreed, Known, agreed, is_close, known}
-use Rattle.ua_conn.specs.server.Faults.{channel_of, fault_at}
+use Rattle.ua_conn.specs.Past.{Agreed, Known, agreed, known}
 use Rattle.ua_conn.specs.server.Replies.{Acknowledge, Opened}
-use Rattle.ua_conn.proofs.BothEnds.SpokenLemmas.{Greets, Opens, Closes, spell}
-use Rattle.ua_conn.proofs.BothEnds.SpokenRequestLemmas.{Taken, taken_more, at, some_tokens, IsSending}
-use Rattle.ua_conn.proofs.BothEnds.SpokenTurnLemmas.{nothing, nothing_known, hello_taken, open_taken, close_passes}
+use Rattle.ua_conn.proofs.BothEnds.SpokenLemmas.{Greets, Opens, spell}
+use Rattle.ua_conn.proofs.BothEnds.SpokenRequestLemmas.{Taken, taken_more, at}
+use Rattle.ua_conn.proofs.BothEnds.SpokenTurnLemmas.{nothing, nothing_known, hello_taken, open_taken}
 
 -- ---- what a client is set up with
 
@@ -84,32 +81,7 @@ opening_taken site buffer max_message max_chunks lifetime first now url f g limi
     subst (λ (k : Known). Taken site k (at a (token ∷ []) (Some (number_after first 0)) None None) (f ∷ g ∷ []) (Acknowledge a.ack ∷ Opened 1 (opened_body 1 g.moment site.channel token) ∷ []) []) (sym (nothing_known site))
     (taken_more site nothing (at a [] None None None) (at a (token ∷ []) (Some (number_after first 0)) None None) f (g ∷ []) (Acknowledge a.ack ∷ []) (Opened 1 (opened_body 1 g.moment site.channel token) ∷ []) [] [] one two)
 
--- ---- a renewal
-
--- a token was issued
-opened_channel : (site : Site) (a : Agreed) (t : Token) (tokens : List Token) (last used : Option ℕ) → awaited_channel (channel_of site (at a (t ∷ tokens) last None used)) ≡ site.channel
-opened_channel site a t tokens last used = ap (λ b. cond b 0 site.channel) (some_tokens (t ∷ tokens) (omega arith))
-
-opened_type : (site : Site) (a : Agreed) (t : Token) (tokens : List Token) (last used : Option ℕ) → pos (awaited_type (channel_of site (at a (t ∷ tokens) last None used))) ≡ pos 1
-opened_type site a t tokens last used = ap (λ b. pos (cond b 0 1)) (some_tokens (t ∷ tokens) (omega arith))
-
-pub renewal_taken : (site : Site) (a : Agreed) (t : Token) (tokens : List Token) (last used : Option ℕ) (lifetime now number id : ℕ) (f : Frame)
-    → IsAgreed a → site.channel < 2 ^ 32 → lifetime < 2 ^ 32 → now < 2 ^ 63 → number < 2 ^ 32 → id < 2 ^ 32 → follows_last last number ≡ true → t.id < 4294967295
-    → f.bytes ≡ spell (Opens site.channel number id (open_body now id 1 lifetime))
-    → (let token = next_token (t ∷ tokens) f.moment lifetime in
-    Taken site (at a (t ∷ tokens) last None used) (at a (token ∷ t ∷ []) (Some number) None used) (f ∷ []) (Opened id (opened_body id f.moment site.channel token) ∷ []) [])
-renewal_taken site a t tokens last used lifetime now number id f is c l clock n i follow unspent e =
-    open_taken site a (t ∷ tokens) last used site.channel number id (open_body now id 1 lifetime) (open_request_at now id 1 lifetime) f e (sym (opened_channel site a t tokens last used))
-    (omega (arith, open_request_length now id 1 lifetime)) is.receive_least c n i follow unspent (open_request_read now id 1 lifetime clock i (lit< tt) l) (sym (opened_type site a t tokens last used)) refl
-
 -- ---- a close
 
 abbrev pub close_body : ℕ → ℕ → List ℕ
 close_body now handle = close_message.canon (close_request_at now handle)
-
-pub close_taken : (site : Site) (a : Agreed) (tokens : List Token) (last used : Option ℕ) (token now number id : ℕ) (f : Frame)
-    → IsAgreed a → IsSending site a tokens token id → now < 2 ^ 63 → number < 2 ^ 32 → is_usable tokens token f.moment ≡ true → follows_last last number ≡ true
-    → f.bytes ≡ spell (Closes site.channel token number id (close_body now id))
-    → (fault_at site (at a tokens last None used) f ≡ None) × (is_close (kind_of f.bytes) ≡ true)
-close_taken site a tokens last used token now number id f is h clock n usable follow e =
-    close_passes site a tokens last used token number id (close_body now id) (close_request_at now id) f h e n (omega (arith, close_request_length now id, is.receive_least)) usable follow (close_request_read now id clock h.id)

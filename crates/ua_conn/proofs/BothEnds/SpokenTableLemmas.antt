@@ -1,5 +1,5 @@
 -- What a client makes of a frame that a server sent: which rows hold.
-use Rattle.std.proofs.Common.{◌≡◌, ℕ, ◌+◌, ◌-◌, ◌<◌, ◌≤◌, ◌^◌, Bool, true, false, cond, not, ◌&&◌, List, [], ◌∷◌, ◌++◌, length, Option, Some, None, is_none, refl, sym, ap, subst, ◌∙◌, arith, lit≤}
+use Rattle.std.proofs.Common.{◌≡◌, ℕ, ◌+◌, ◌<◌, ◌≤◌, ◌^◌, Bool, true, false, cond, not, ◌&&◌, List, [], ◌∷◌, ◌++◌, length, Option, Some, None, is_none, refl, ap, ◌∙◌, arith, lit≤}
 use Rattle.std.specs.Prelude.{◌==◌, nat_le, option_map}
 use Rattle.std.proofs.lemmas.Bool.{eq-eqb, le-leb}
 use Rattle.ua_frame.specs.Layout.{Frame, fields_of}
@@ -7,17 +7,15 @@ use Rattle.ua_frame.specs.HeaderRows.{flag_fits, header_fault}
 use Rattle.ua_frame.specs.Hello.{acknowledge_layout, is_acceptable}
 use Rattle.ua_frame.specs.declared.kind.Kind.TheVariants as kinds
 use Rattle.ua_frame.specs.declared.acknowledge.Ack.{Ack}
-use Rattle.ua_chunk.specs.Layout.{Chunk, chunk_of, policy_none, abort_bytes}
+use Rattle.ua_chunk.specs.Layout.{Chunk, chunk_of, policy_none}
 use Rattle.ua_chunk.specs.Cut.{Part}
-use Rattle.ua_chunk.specs.Half.{Half, body_of, parts_of as half_parts, may_have_id, half_after}
-use Rattle.ua_chunk.specs.HalfLaws.{NoPartRow, no_part_row, half_with, Arrives}
-use Rattle.ua_chunk.specs.Numbers.{number_after}
-use Rattle.ua_chunk.specs.NumberLaws.{each_follows}
-use Rattle.ua_chunk.specs.FrameLaws.{number_fits, abort_read, abort_length}
+use Rattle.ua_chunk.specs.Half.{Half, body_of, half_after}
+use Rattle.ua_chunk.specs.HalfLaws.{NoPartRow}
+use Rattle.ua_chunk.specs.FrameLaws.{abort_read}
 use Rattle.ua_channel.specs.Token.{two_newest}
 use Rattle.ua_channel.specs.declared.token.Token.{Token}
 use Rattle.ua_channel.specs.Admission.{follows_last, is_text, admit_rows_by}
-use Rattle.ua_frame.specs.Rows.{Row}
+use Rattle.ua_frame.specs.Rows.{Row, first_row, or_else}
 use Rattle.ua_channel.specs.ClientChannel.{names_other}
 use Rattle.ua_service.specs.declared.channel.OpenResponse.{OpenResponse}
 use Rattle.ua_service.specs.declared.request.Request.{Request}
@@ -30,23 +28,22 @@ use Rattle.ua_conn.specs.client.Asker.{Asker, hello_by}
 use Rattle.ua_conn.specs.client.Reading.{result_by, answer_with, answer_at}
 use Rattle.ua_conn.specs.server.Replies.{aborted}
 use Rattle.ua_conn.specs.declared.client.answer.AnswerResult.TheVariants.{Response as Responds, Aborted}
-use Rattle.ua_conn.proofs.BothEnds.SpokenAnswerLemmas.{abort_arrives}
 use Rattle.ua_conn.specs.client.Past.{ClientKnown, client_channel, acknowledge_in, response_in, granted_by, channel_named}
-use Rattle.ua_conn.specs.client.Faults.{first_of, broken, or_fault, greatest_answer, is_awaited, acknowledge_rows, opened_rows, response_rows, whole_rows, whole_response, fits, answer_rows, client_rows, client_fault_by}
+use Rattle.ua_conn.specs.client.Faults.{broken, greatest_answer, is_awaited, acknowledge_rows, opened_rows, response_rows, whole_rows, whole_response, fits, answer_rows, client_rows, client_fault_by}
 use Rattle.ua_conn.specs.declared.client.fault.ClientFault.TheVariants.{ServerSaid, Broken}
 use Rattle.ua_conn.proofs.BothEnds.SpokenLemmas.{Spoken, Acknowledges, Opens, Tells, spell, parts_of, IsSized, IsFlagged, IsProper, size_by, spell_passes, IsRead, is_read}
 use Rattle.ua_conn.proofs.BothEnds.SpokenEffectLemmas.{opening_of, chunk_by}
-use Rattle.ua_conn.proofs.BothEnds.SpokenRequestLemmas.{some_tokens, told, AreSpoken, AreWithin}
+use Rattle.ua_conn.proofs.BothEnds.SpokenRequestLemmas.{some_tokens}
 use Rattle.ua_conn.proofs.BothEnds.SpokenTurnLemmas.{text_same}
 
 -- The whole table of a client, at a frame that is no greater than what it takes: the rows of the value's type and flag.
 pub heard_fault : (a : Asker) (k : ClientKnown) (due : Option ℕ) (wanted : Option Request) (usable : Bool) (f : Frame) (x : Spoken) → f.bytes ≡ spell x → IsSized x → IsFlagged x → IsProper x → size_by x ≤ greatest_answer k.ack
-    → client_fault_by a k due wanted usable f ≡ first_of (client_rows a k due wanted usable f (parts_of x).flag (Some (parts_of x).kind))
+    → client_fault_by a k due wanted usable f ≡ first_row (client_rows a k due wanted usable f (parts_of x).flag (Some (parts_of x).kind))
 unfolding client_fault_by
 heard_fault a k due wanted usable f x e short flag is within =
     let head : header_fault (greatest_answer k.ack) f.bytes ≡ None = ap (header_fault (greatest_answer k.ack)) e ∙ spell_passes (greatest_answer k.ack) x short flag within in
     let read = is_read f x e short is in
-    λ i. or_fault (option_map Broken (head i)) (first_of (client_rows a k due wanted usable f (read.flag i) (read.kind i)))
+    λ i. or_else (option_map Broken (head i)) (first_row (client_rows a k due wanted usable f (read.flag i) (read.kind i)))
 
 -- ---- an ACK
 
@@ -68,7 +65,7 @@ acknowledge_heard a due wanted usable ack f e is p q r s =
     let read : acknowledge_in f ≡ Some ack = (is_read f x e tt is).says in
     let fine = sizes_fit a ack p q r s in
     heard_fault a unacknowledged due wanted usable f x e tt refl is (lit≤ tt)
-    ∙ ap (λ o. first_of (broken (acknowledge_rows a o))) read
+    ∙ ap (λ o. first_row (broken (acknowledge_rows a o))) read
     ∙ (λ i. cond (not (fine i)) (Some (Broken 0x80810000)) None)
 
 -- ---- an OPN
@@ -96,9 +93,9 @@ opened_heard a ack known channel tokens last wanted usable number id body r f e 
     let asked : (id == id) ≡ true = eq-eqb id id refl in
     let named : (r.channel_id == channel) ≡ true = eq-eqb r.channel_id channel same in
     heard_fault a k (Some id) wanted usable f x e sized refl (c, n, i) (omega (arith, short, room))
-    ∙ ap (λ o. cond (not (is_awaited k (Some id) (Some kinds.Open))) (Some (Broken 0x807E0000)) (first_of (opened_rows k (Some id) o))) read
+    ∙ ap (λ o. cond (not (is_awaited k (Some id) (Some kinds.Open))) (Some (Broken 0x807E0000)) (first_row (opened_rows k (Some id) o))) read
     ∙ ap (λ o. cond (not (is_awaited k (Some id) (Some kinds.Open))) (Some (Broken 0x807E0000)) (cond (names_other (client_channel k) channel) (Some (Broken 0x807F0000))
-    (cond (not (is_text policy_none (Some policy_none))) (Some (Broken 0x80550000)) (cond (not (follows_last last number)) (Some (Broken 0x80880000)) (cond (not (id == id)) (Some (Broken 0x80090000)) (first_of (response_rows channel o))))))) is
+    (cond (not (is_text policy_none (Some policy_none))) (Some (Broken 0x80550000)) (cond (not (follows_last last number)) (Some (Broken 0x80880000)) (cond (not (id == id)) (Some (Broken 0x80090000)) (first_row (response_rows channel o))))))) is
     ∙ (λ j. cond (not (awaited j)) (Some (Broken 0x807E0000)) (cond (own j) (Some (Broken 0x807F0000)) (cond (not (text j)) (Some (Broken 0x80550000)) (cond (not (follow j)) (Some (Broken 0x80880000))
     (cond (not (asked j)) (Some (Broken 0x80090000)) (cond (good j) (Some (ServerSaid r.header.service_result.0 None)) (cond (not (named j)) (Some (Broken 0x807F0000)) None)))))))
 
@@ -108,13 +105,13 @@ opened_heard a ack known channel tokens last wanted usable number id body r f e 
 abbrev pub last_rows : Option Request → ℕ → Option Response → List Row
 last_rows wanted flag response = cond (flag == 70) (whole_rows wanted response) []
 
-broken_none : (rows more : List Row) → first_of (broken rows) ≡ None → first_of (broken more) ≡ None → first_of (broken (rows ++ more)) ≡ None
+broken_none : (rows more : List Row) → first_row (broken rows) ≡ None → first_row (broken more) ≡ None → first_row (broken (rows ++ more)) ≡ None
 broken_none [] more h k = k
 broken_none ((true, status) ∷ rows) more h k = absurd cc
 broken_none ((false, status) ∷ rows) more h k = broken_none rows more h k
 
-answers_none : (a : Asker) (k : ClientKnown) (request : Request) (flag : ℕ) (c : Chunk) → NoPartRow a.config.max_message a.config.max_chunks k.half flag c.request_id c.body → first_of (broken (last_rows (Some request) flag (whole_response k c))) ≡ None
-    → first_of (broken (answer_rows a k (Some request) flag c)) ≡ None
+answers_none : (a : Asker) (k : ClientKnown) (request : Request) (flag : ℕ) (c : Chunk) → NoPartRow a.config.max_message a.config.max_chunks k.half flag c.request_id c.body → first_row (broken (last_rows (Some request) flag (whole_response k c))) ≡ None
+    → first_row (broken (answer_rows a k (Some request) flag c)) ≡ None
 answers_none a k request flag c h last =
     λ i. cond (h.id i) (Some (Broken 0x807E0000)) (cond (h.size i) (Some (Broken 0x80800000)) (cond (h.abort i) (Some (Broken 0x80070000)) (last i)))
 
@@ -123,7 +120,7 @@ pub part_heard : (a : Asker) (ack : Ack) (channel : ℕ) (tokens : List Token) (
     → f.bytes ≡ spell (Tells channel token number p) → flag_fits kinds.Message p.flag ≡ true → 24 + length p.bytes ≤ ack.send → ack.send < 2 ^ 32
     → channel < 2 ^ 32 → token < 2 ^ 32 → number < 2 ^ 32 → p.id < 2 ^ 32 → 0 < length tokens → follows_last last number ≡ true
     → NoPartRow a.config.max_message a.config.max_chunks half p.flag p.id p.bytes
-    → first_of (broken (last_rows (Some request) p.flag (response_of (body_of half ++ p.bytes)))) ≡ None
+    → first_row (broken (last_rows (Some request) p.flag (response_of (body_of half ++ p.bytes)))) ≡ None
     → client_fault_by a (hears ack channel tokens last half) due (Some request) true f ≡ None
 part_heard a ack channel tokens last half due request token number p f e flag within fits ch t n i some follow rows whole =
     let k = hears ack channel tokens last half in
@@ -133,23 +130,23 @@ part_heard a ack channel tokens last half due request token number p f e flag wi
     let read : chunk_of (fields_of f.bytes) ≡ Some c = (is_read f x e sized (ch, t, n, i)).says in
     let awaited : is_awaited k due (Some kinds.Message) ≡ true = ap (λ b. cond b false true) (some_tokens tokens some) in
     let own : (channel == channel) ≡ true = eq-eqb channel channel refl in
-    let admits : first_of (broken ((is_none (Some c), 0x80070000) ∷ admit_rows_by (client_channel k) c true)) ≡ None =
+    let admits : first_row (broken ((is_none (Some c), 0x80070000) ∷ admit_rows_by (client_channel k) c true)) ≡ None =
     λ j. cond (not (own j)) (Some (Broken 0x807F0000)) (cond (not (follow j)) (Some (Broken 0x80880000)) None) in
     heard_fault a k due (Some request) true f x e sized flag (ch, t, n, i) within
-    ∙ ap (λ o. cond (not (is_awaited k due (Some kinds.Message))) (Some (Broken 0x807E0000)) (first_of (broken (((is_none o, 0x80070000) ∷ admit_rows_by (client_channel k) (or_empty o) true) ++ answer_rows a k (Some request) p.flag (or_empty o))))) read
-    ∙ ap (λ b. cond (not b) (Some (Broken 0x807E0000)) (first_of (broken (((is_none (Some c), 0x80070000) ∷ admit_rows_by (client_channel k) c true) ++ answer_rows a k (Some request) p.flag c)))) awaited
+    ∙ ap (λ o. cond (not (is_awaited k due (Some kinds.Message))) (Some (Broken 0x807E0000)) (first_row (broken (((is_none o, 0x80070000) ∷ admit_rows_by (client_channel k) (or_empty o) true) ++ answer_rows a k (Some request) p.flag (or_empty o))))) read
+    ∙ ap (λ b. cond (not b) (Some (Broken 0x807E0000)) (first_row (broken (((is_none (Some c), 0x80070000) ∷ admit_rows_by (client_channel k) c true) ++ answer_rows a k (Some request) p.flag c)))) awaited
     ∙ broken_none ((is_none (Some c), 0x80070000) ∷ admit_rows_by (client_channel k) c true) (answer_rows a k (Some request) p.flag c) admits (answers_none a k request p.flag c rows whole)
 
 -- before the last part nothing more is read,
-pub more_heard : (request : Request) (flag : ℕ) (o : Option Response) → (flag == 70) ≡ false → first_of (broken (last_rows (Some request) flag o)) ≡ None
-more_heard request flag o h = ap (λ b. first_of (broken (cond b (whole_rows (Some request) o) []))) h
+pub more_heard : (request : Request) (flag : ℕ) (o : Option Response) → (flag == 70) ≡ false → first_row (broken (last_rows (Some request) flag o)) ≡ None
+more_heard request flag o h = ap (λ b. first_row (broken (cond b (whole_rows (Some request) o) []))) h
 
 -- and with it the response, of a kind that fits the request.
-pub whole_heard : (request : Request) (flag : ℕ) (o : Option Response) (r : Response) → o ≡ Some r → fits request r ≡ true → first_of (broken (last_rows (Some request) flag o)) ≡ None
+pub whole_heard : (request : Request) (flag : ℕ) (o : Option Response) (r : Response) → o ≡ Some r → fits request r ≡ true → first_row (broken (last_rows (Some request) flag o)) ≡ None
 whole_heard request flag o r e h = by (flag == 70)
   where
-    by : (b : Bool) → first_of (broken (cond b (whole_rows (Some request) o) [])) ≡ None
-    by true = ap (λ q. first_of (broken (whole_rows (Some request) q))) e ∙ (λ i. cond (not (h i)) (Some (Broken 0x80090000)) None)
+    by : (b : Bool) → first_row (broken (cond b (whole_rows (Some request) o) [])) ≡ None
+    by true = ap (λ q. first_row (broken (whole_rows (Some request) q))) e ∙ (λ i. cond (not (h i)) (Some (Broken 0x80090000)) None)
     by false = refl
 
 -- ---- all parts of an answer
@@ -170,25 +167,6 @@ known_heard ack channel tokens last half next token number p f h put =
     ∙ (λ i. hears ack channel tokens (Some (car i).sequence) (half_after half p.flag (car i).request_id (car i).body))
     ∙ ap (hears ack channel tokens (Some number)) put
 
--- no row holds at any of them, whatever open request is due, while this request is pending under their id and their token is usable
-abbrev pub AllHeard : Asker → ClientKnown → Request → List Frame → Type 0
-AllHeard a k request [] = Unit {0}
-AllHeard a k request (f ∷ fs) = ((due : Option ℕ) → client_fault_by a k due (Some request) true f ≡ None) × AllHeard a (client_known_after k f) request fs
-
-abbrev pub known_behind : ClientKnown → List Frame → ClientKnown
-known_behind k [] = k
-known_behind k (f ∷ fs) = known_behind (client_known_after k f) fs
-
-pub record Heard (a : Asker) (k k' : ClientKnown) (request : Request) (fs : List Frame) : Type 0 where
-  pub heard : AllHeard a k request fs
-  pub known : known_behind k fs ≡ k'
-
-heard_more : (a : Asker) (k k1 k2 : ClientKnown) (request : Request) (f : Frame) (fs : List Frame) → ((due : Option ℕ) → client_fault_by a k due (Some request) true f ≡ None) → client_known_after k f ≡ k1 → Heard a k1 k2 request fs → Heard a k k2 request (f ∷ fs)
-heard_more a k k1 k2 request f fs one step more = record {
-  heard = (one, subst (λ (x : ClientKnown). AllHeard a x request fs) (sym step) more.heard);
-  known = ap (λ (x : ClientKnown). known_behind x fs) step ∙ more.known;
-}
-
 -- what does not change from part to part
 pub record IsAnswering (ack : Ack) (channel : ℕ) (known : List Token) (named request : ℕ) : Type 0 where
   pub channel_fits : channel < 2 ^ 32
@@ -196,62 +174,6 @@ pub record IsAnswering (ack : Ack) (channel : ℕ) (known : List Token) (named r
   pub id : request < 2 ^ 32
   pub tokens : 0 < length known
   pub send : ack.send < 2 ^ 32
-
--- The frames of an answer that arrives: none is refused, and nothing is half received behind them.
-pub answer_heard : (a : Asker) (ack : Ack) (channel : ℕ) (tokens : List Token) (last : Option ℕ) (half : Option Half) (request : Request) (token id first n : ℕ) (body : List ℕ) (r : Response) (parts : List Part) (fs : List Frame)
-    → IsAnswering ack channel tokens token id → 1 ≤ first → AreSpoken fs (told channel token first n parts) → AreWithin ack.send parts → follows_last last (number_after first n) ≡ true
-    → Arrives a.config.max_message a.config.max_chunks id body half parts → response_of body ≡ Some r → fits request r ≡ true
-    → Heard a (hears ack channel tokens last half) (hears ack channel tokens (Some (number_after first (n + length parts - 1))) None) request fs
-answer_heard a ack channel tokens last half request token id first n body r [] fs h some spoken within follow arrives is fit = absurd arrives
-answer_heard a ack channel tokens last half request token id first n body r (p ∷ []) [] h some spoken within follow arrives is fit = absurd spoken
-answer_heard a ack channel tokens last half request token id first n body r (p ∷ []) (f ∷ g ∷ fs) h some spoken within follow arrives is fit = absurd spoken.1
-answer_heard a ack channel tokens last half request token id first n body r (p ∷ q ∷ parts) [] h some spoken within follow arrives is fit = absurd spoken
-answer_heard a ack channel tokens last half request token id first n body r (p ∷ q ∷ parts) (f ∷ []) h some spoken within follow arrives is fit = absurd spoken.1
-answer_heard a ack channel tokens last half request token id first n body r (p ∷ []) (f ∷ []) h some spoken within follow arrives is fit =
-    let x = Tells channel token (number_after first n) p in
-    let flag : flag_fits kinds.Message p.flag ≡ true = ap (flag_fits kinds.Message) arrives.1 in
-    let own : p.id < 2 ^ 32 = omega (arith, arrives.0, h.id) in
-    let sized : 24 + length p.bytes < 2 ^ 32 = omega (arith, within.0, h.send) in
-    let rows = no_part_row a.config.max_message a.config.max_chunks half p.flag p.id p.bytes arrives.2 in
-    let whole = whole_heard request p.flag (response_of (body_of half ++ p.bytes)) r (ap response_of arrives.4 ∙ is) fit in
-    let read = is_read f x spoken.0 sized (h.channel_fits, h.token, number_fits first n, own) in
-    let count : n ≡ n + 1 - 1 = omega arith in
-    heard_more a (hears ack channel tokens last half) (hears ack channel tokens (Some (number_after first n)) None) (hears ack channel tokens (Some (number_after first (n + 1 - 1))) None) request f []
-    (λ due. part_heard a ack channel tokens last half due request token (number_after first n) p f spoken.0 flag within.0 h.send h.channel_fits h.token (number_fits first n) own h.tokens follow rows whole)
-    (known_heard ack channel tokens last half None token (number_after first n) p f read arrives.3)
-    (record { heard = tt; known = ap (λ m. hears ack channel tokens (Some (number_after first m)) None) count })
-answer_heard a ack channel tokens last half request token id first n body r (p ∷ q ∷ parts) (f ∷ g ∷ fs) h some spoken within follow arrives is fit =
-    let x = Tells channel token (number_after first n) p in
-    let next : Half = half_with id (body_of half ++ p.bytes) (half_parts half + 1) in
-    let flag : flag_fits kinds.Message p.flag ≡ true = ap (flag_fits kinds.Message) arrives.1 in
-    let own : p.id < 2 ^ 32 = omega (arith, arrives.0, h.id) in
-    let sized : 24 + length p.bytes < 2 ^ 32 = omega (arith, within.0, h.send) in
-    let rows = no_part_row a.config.max_message a.config.max_chunks half p.flag p.id p.bytes arrives.2 in
-    let whole = more_heard request p.flag (response_of (body_of half ++ p.bytes)) (ap (λ (m : ℕ). m == 70) arrives.1) in
-    let read = is_read f x spoken.0 sized (h.channel_fits, h.token, number_fits first n, own) in
-    let more = answer_heard a ack channel tokens (Some (number_after first n)) (Some next) request token id first (n + 1) body r (q ∷ parts) (g ∷ fs) h some spoken.1 within.1 (each_follows first n some) arrives.4 is fit in
-    let count : n + 1 + length (q ∷ parts) - 1 ≡ n + length (p ∷ q ∷ parts) - 1 = omega arith in
-    let all = heard_more a (hears ack channel tokens last half) (hears ack channel tokens (Some (number_after first n)) (Some next)) (hears ack channel tokens (Some (number_after first (n + 1 + length (q ∷ parts) - 1))) None) request f (g ∷ fs)
-    (λ due. part_heard a ack channel tokens last half due request token (number_after first n) p f spoken.0 flag within.0 h.send h.channel_fits h.token (number_fits first n) own h.tokens follow rows whole)
-    (known_heard ack channel tokens last half (Some next) token (number_after first n) p f read arrives.3) more in
-    record { heard = all.heard; known = all.known ∙ ap (λ m. hears ack channel tokens (Some (number_after first m)) None) count }
-
--- ---- an abort in the place of an answer
-
-pub abort_heard : (a : Asker) (ack : Ack) (channel : ℕ) (tokens : List Token) (last : Option ℕ) (half : Option Half) (request : Request) (token number id status : ℕ) (f : Frame)
-    → IsAnswering ack channel tokens token id → f.bytes ≡ spell (Tells channel token number (aborted id status)) → 8192 ≤ ack.send → number < 2 ^ 32 → status < 2 ^ 32 → may_have_id half id ≡ true → follows_last last number ≡ true
-    → Heard a (hears ack channel tokens last half) (hears ack channel tokens (Some number) None) request (f ∷ [])
-abort_heard a ack channel tokens last half request token number id status f h e room n lt same follow =
-    let p = aborted id status in
-    let x = Tells channel token number p in
-    let long : 24 + length p.bytes ≡ 32 = omega (arith, abort_length status) in
-    let arrives = abort_arrives a.config.max_message a.config.max_chunks id status half lt same in
-    let rows = no_part_row a.config.max_message a.config.max_chunks half 65 id (abort_bytes status) arrives.0 in
-    let read = is_read f x e (omega (arith, long)) (h.channel_fits, h.token, n, h.id) in
-    heard_more a (hears ack channel tokens last half) (hears ack channel tokens (Some number) None) (hears ack channel tokens (Some number) None) request f []
-    (λ due. part_heard a ack channel tokens last half due request token number p f e refl (omega (arith, long, room)) h.send h.channel_fits h.token n h.id h.tokens follow rows (more_heard request 65 (response_of (body_of half ++ p.bytes)) refl))
-    (known_heard ack channel tokens last half None token number p f read arrives.1)
-    (record { heard = tt; known = refl })
 
 -- ---- what is given to the caller
 

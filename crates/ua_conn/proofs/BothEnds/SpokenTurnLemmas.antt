@@ -1,5 +1,5 @@
--- What a server makes of a Hello, an open request, a renewal, a request and a close request that a client sent.
-use Rattle.std.proofs.Common.{◌≡◌, ℕ, ◌+◌, ◌-◌, ◌<◌, ◌≤◌, ◌^◌, Bool, true, false, cond, not, List, [], ◌∷◌, length, Option, Some, None, is_some, is_none, refl, ap, ◌∙◌, arith}
+-- What a server makes of a Hello and an open request that a client sent.
+use Rattle.std.proofs.Common.{◌≡◌, ℕ, ◌+◌, ◌<◌, ◌≤◌, ◌^◌, Bool, true, false, cond, not, List, [], ◌∷◌, length, Option, Some, None, is_some, refl, ap, ◌∙◌, arith}
 use Rattle.std.specs.Prelude.{◌==◌, nat_lt, nat_le, pos}
 use Rattle.std.specs.List.{AllByRecursion}
 use Rattle.std.proofs.lemmas.Bool.{eq-eqb, le-ltb, lt-leb}
@@ -11,30 +11,21 @@ use Rattle.ua_frame.specs.FrameLaws.{hello_frame_short}
 use Rattle.ua_frame.specs.declared.kind.Kind.TheVariants as kinds
 use Rattle.ua_frame.specs.declared.hello.Hello.{Hello}
 use Rattle.ua_chunk.specs.Layout.{policy_none}
-use Rattle.ua_chunk.specs.Cut.{Part, part_count, fill}
-use Rattle.ua_chunk.specs.HalfLaws.{fill_arrives}
-use Rattle.ua_chunk.specs.FrameLaws.{IsPartOf, fill_parts}
-use Rattle.ua_chunk.specs.Numbers.{number_after}
+use Rattle.ua_chunk.specs.Cut.{Part}
+use Rattle.ua_chunk.specs.FrameLaws.{IsPartOf}
 use Rattle.ua_channel.specs.declared.token.Token.{Token}
-use Rattle.ua_channel.specs.Token.{newest_id, next_token, two_newest, is_usable}
-use Rattle.ua_channel.specs.Channel.{most}
+use Rattle.ua_channel.specs.Token.{newest_id, next_token, two_newest}
 use Rattle.ua_channel.specs.Admission.{is_text, follows_last, awaited_channel, awaited_type, is_int}
 use Rattle.ua_service.specs.declared.channel.OpenRequest.{OpenRequest}
-use Rattle.ua_service.specs.declared.channel.CloseRequest.{CloseRequest}
-use Rattle.ua_service.specs.declared.request.Request.{Request}
-use Rattle.ua_service.specs.ChannelMessages.{open_of, close_of}
-use Rattle.ua_service.specs.Requests.{IsRequest, canon_request}
-use Rattle.ua_service.specs.ValueLaws.{request_read}
+use Rattle.ua_service.specs.ChannelMessages.{open_of}
 use Rattle.ua_conn.specs.server.Site.{Site}
 use Rattle.ua_conn.specs.server.Answers.{opened_body}
 use Rattle.ua_conn.specs.Past.{Agreed, Known, agreed, is_close, known, lifetime_asked}
-use Rattle.ua_conn.specs.server.Faults.{channel_of, is_allowed, fault_at, open_rows, request_rows, close_rows}
+use Rattle.ua_conn.specs.server.Faults.{channel_of, is_allowed, fault_at, open_rows, request_rows}
 use Rattle.ua_conn.specs.server.Replies.{Acknowledge, Opened, opened_by}
-use Rattle.ua_conn.specs.server.Effects.{admitted_rows, answers}
-use Rattle.ua_conn.proofs.ServerEnd.TableLemmas.{join_none}
-use Rattle.ua_conn.proofs.BothEnds.SpokenLemmas.{Greets, Opens, Closes, spell, IsProper, is_read}
-use Rattle.ua_conn.proofs.BothEnds.SpokenEffectLemmas.{opening_of, chunk_by, effect_of, spoken_effect, spoken_fault}
-use Rattle.ua_conn.proofs.BothEnds.SpokenRequestLemmas.{Taken, taken_one, at, some_tokens, IsSending, told, AreSpoken, AreWithin, AreUsable, last_moment, admitted_none, request_taken}
+use Rattle.ua_conn.proofs.BothEnds.SpokenLemmas.{Greets, Opens, spell, is_read}
+use Rattle.ua_conn.proofs.BothEnds.SpokenEffectLemmas.{opening_of, effect_of, spoken_effect, spoken_fault}
+use Rattle.ua_conn.proofs.BothEnds.SpokenRequestLemmas.{Taken, taken_one, at, AreWithin}
 
 -- ---- the Hello
 
@@ -115,35 +106,3 @@ open_taken site a tokens last used channel number id body r f e own short room c
 pub parts_within : (id k limit : ℕ) (parts : List Part) → 24 + k ≤ limit → AllByRecursion (IsPartOf id k) parts → AreWithin limit parts
 parts_within id k limit [] le h = tt
 parts_within id k limit (p ∷ parts) le h = (omega (arith, h.0.size, le), parts_within id k limit parts le h.1)
-
--- In parts that the server's buffer holds, and within the limits of the Acknowledge: it is handed on, and its answer is said.
-pub asked_taken : (site : Site) (a : Agreed) (tokens : List Token) (last used : Option ℕ) (token id first n part_limit : ℕ) (r : Request) (fs : List Frame)
-    → IsSending site a tokens token id → 1 ≤ first → 1 ≤ part_limit → 24 + part_limit ≤ a.ack.receive → IsRequest r
-    → length (canon_request r) ≤ site.settings.limits.max_message → part_count (length (canon_request r)) part_limit ≤ site.settings.limits.max_chunks
-    → AreSpoken fs (told site.channel token first n (fill id (canon_request r) part_limit)) → AreUsable tokens token fs → follows_last last (number_after first n) ≡ true
-    → Taken site (at a tokens last None used) (at a tokens (Some (number_after first (n + length (fill id (canon_request r) part_limit) - 1))) None (Some (most used token))) fs
-    (answers site (last_moment fs) (most used token) id (Some a) (Some r)) (r ∷ [])
-asked_taken site a tokens last used token id first n part_limit r fs h some least room is short few spoken usable follow =
-    request_taken site a tokens last None used token id first n (canon_request r) r (fill id (canon_request r) part_limit) fs h some spoken
-    (parts_within id part_limit a.ack.receive (fill id (canon_request r) part_limit) room (fill_parts id part_limit (canon_request r))) usable follow
-    (fill_arrives site.settings.limits.max_message site.settings.limits.max_chunks id part_limit (canon_request r) least short few) (request_read r is)
-
--- ---- a close request
-
--- also in mid-message
-pub close_passes : (site : Site) (a : Agreed) (tokens : List Token) (last used : Option ℕ) (token number id : ℕ) (body : List ℕ) (r : CloseRequest) (f : Frame)
-    → IsSending site a tokens token id → f.bytes ≡ spell (Closes site.channel token number id body) → number < 2 ^ 32 → 24 + length body ≤ a.ack.receive
-    → is_usable tokens token f.moment ≡ true → follows_last last number ≡ true → close_of body ≡ Some r
-    → (fault_at site (at a tokens last None used) f ≡ None) × (is_close (kind_of f.bytes) ≡ true)
-close_passes site a tokens last used token number id body r f h e n within usable follow is =
-    let k = at a tokens last None used in
-    let x = Closes site.channel token number id body in
-    let sized : 24 + length body < 2 ^ 32 = omega (arith, within, h.receive) in
-    let proper : IsProper x = (h.channel, h.token, n, h.id) in
-    let allowed : not (is_allowed k (Some kinds.Close)) ≡ false = ap (λ b. not (cond b false true)) (some_tokens tokens h.tokens) in
-    let fine : fault_at site k f ≡ None =
-    spoken_fault site k f x e tt sized refl proper within
-    ∙ ap (λ b. cond b (Some 0x807E0000) (first_row (effect_of site k f.moment x).rows)) allowed
-    ∙ join_none (admitted_rows (channel_of site k) f.moment (Some (chunk_by site.channel token number id body))) (close_rows (chunk_by site.channel token number id body)) (admitted_none site k f.moment token number id body usable follow)
-    ∙ ap (λ o. cond (is_none o) (Some 0x80070000) None) is in
-    (fine, ap is_close (is_read f x e sized proper).kind)

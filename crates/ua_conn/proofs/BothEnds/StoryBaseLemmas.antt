@@ -8,7 +8,7 @@ use Rattle.ua_conn.specs.Past.{Past}
 use Rattle.ua_conn.specs.client.Commands.{Act, Ask, Renew, Close, Commands, is_closed}
 use Rattle.ua_conn.specs.client.Reading.{client_reading_of, client_fault}
 use Rattle.ua_conn.specs.client.Sending.{Sent, sent_by}
-use Rattle.ua_conn.specs.client.Asking.{InFlight, ask_fault}
+use Rattle.ua_conn.specs.client.Asking.{ask_fault}
 use Rattle.ua_conn.specs.Story.{Setup, World, begun, client_stream, server_stream, delivered, ticked, told_by, came_by, happens}
 use Rattle.ua_conn.specs.BothEnds.{IsSetup}
 use Rattle.ua_conn.specs.declared.schedule.Step.{Step}
@@ -51,15 +51,15 @@ came_timely : (w : World) (v : List TimedByte) (o : Option ClientFault) → AreT
 came_timely w v (Some fault) h k = record { clock = h.clock; up = h.up; down = k }
 came_timely w v None h k = record { clock = h.clock; up = h.up; down = k }
 
-timely_kept : (flight : InFlight) (s : Setup) (w : World) (e : Step) → AreTimely w → AreTimely (happens flight s w e)
-timely_kept flight s w (steps.Ask request part) h = told_timely w (Ask request part) (ask_fault flight s.asker w.cmds w.down (Ask request part)) h
-timely_kept flight s w steps.Renew h = told_timely w Renew (ask_fault flight s.asker w.cmds w.down Renew) h
-timely_kept flight s w steps.Close h = told_timely w Close (ask_fault flight s.asker w.cmds w.down Close) h
-timely_kept flight s w (steps.Tick n) h = record { clock = ticked_timely (w.clock +ℤ pos n); up = h.up; down = h.down }
-timely_kept flight s w (steps.Up n) h =
+timely_kept : (s : Setup) (w : World) (e : Step) → AreTimely w → AreTimely (happens s w e)
+timely_kept s w (steps.Ask request part) h = told_timely w (Ask request part) (ask_fault s.asker w.cmds w.down (Ask request part)) h
+timely_kept s w steps.Renew h = told_timely w Renew (ask_fault s.asker w.cmds w.down Renew) h
+timely_kept s w steps.Close h = told_timely w Close (ask_fault s.asker w.cmds w.down Close) h
+timely_kept s w (steps.Tick n) h = record { clock = ticked_timely (w.clock +ℤ pos n); up = h.up; down = h.down }
+timely_kept s w (steps.Up n) h =
     let bytes = take n (drop (length w.up) (client_stream s w)) in
     record { clock = h.clock; up = moments_join w.up (map (at (moment_of w.clock)) bytes) h.up (moments_at (moment_of w.clock) bytes h.clock); down = h.down }
-timely_kept flight s w (steps.Down n) h =
+timely_kept s w (steps.Down n) h =
     let bytes = take n (drop (length w.down) (server_stream s w)) in
     let v = delivered w.clock w.down n (server_stream s w) in
     came_timely w v (client_fault s.asker w.cmds v) h (moments_join w.down (map (at (moment_of w.clock)) bytes) h.down (moments_at (moment_of w.clock) bytes h.clock))
@@ -76,25 +76,25 @@ pub record Settles (s : Setup) (w : World) : Type 0 where
   pub front : IsPrefix w.settled w.down
   pub last : ClosesLast w.cmds
 
-settles_told : (flight : InFlight) (s : Setup) (w : World) (act : Act) (o : Option AskFault) → ask_fault flight s.asker w.cmds w.down act ≡ o → Settles s w → Settles s (told_by w act o)
-settles_told flight s w act (Some fault) e h = h
-settles_told flight s w act None e h = record { settled = inl (by h.settled); front = h.front; last = accepted_open flight s.asker w.cmds w.down act e }
+settles_told : (s : Setup) (w : World) (act : Act) (o : Option AskFault) → ask_fault s.asker w.cmds w.down act ≡ o → Settles s w → Settles s (told_by w act o)
+settles_told s w act (Some fault) e h = h
+settles_told s w act None e h = record { settled = inl (by h.settled); front = h.front; last = accepted_open s.asker w.cmds w.down act e }
   where
     by : (w.settled ≡ w.down) ⊎ ((fault : ClientFault) × (client_fault s.asker w.cmds w.down ≡ Some fault)) → w.settled ≡ w.down
     by (inl same) = same
-    by (inr fault) = absurd (let clash : None ≡ Some fault.0 = sym (accepted_fine flight s.asker w.cmds w.down act e) ∙ fault.1 in cc clash)
+    by (inr fault) = absurd (let clash : None ≡ Some fault.0 = sym (accepted_fine s.asker w.cmds w.down act e) ∙ fault.1 in cc clash)
 
 settles_came : (s : Setup) (w : World) (t : List TimedByte) (o : Option ClientFault) → client_fault s.asker w.cmds (w.down ++ t) ≡ o → Settles s w → Settles s (came_by w (w.down ++ t) o)
 settles_came s w t (Some fault) e h = record { settled = inr (fault, e); front = prefix_trans w.settled w.down (w.down ++ t) h.front (t, refl); last = h.last }
 settles_came s w t None e h = record { settled = inl refl; front = prefix_self (w.down ++ t); last = h.last }
 
-settles_kept : (flight : InFlight) (s : Setup) (w : World) (e : Step) → Settles s w → Settles s (happens flight s w e)
-settles_kept flight s w (steps.Ask request part) h = settles_told flight s w (Ask request part) (ask_fault flight s.asker w.cmds w.down (Ask request part)) refl h
-settles_kept flight s w steps.Renew h = settles_told flight s w Renew (ask_fault flight s.asker w.cmds w.down Renew) refl h
-settles_kept flight s w steps.Close h = settles_told flight s w Close (ask_fault flight s.asker w.cmds w.down Close) refl h
-settles_kept flight s w (steps.Tick n) h = record { settled = h.settled; front = h.front; last = h.last }
-settles_kept flight s w (steps.Up n) h = record { settled = h.settled; front = h.front; last = h.last }
-settles_kept flight s w (steps.Down n) h =
+settles_kept : (s : Setup) (w : World) (e : Step) → Settles s w → Settles s (happens s w e)
+settles_kept s w (steps.Ask request part) h = settles_told s w (Ask request part) (ask_fault s.asker w.cmds w.down (Ask request part)) refl h
+settles_kept s w steps.Renew h = settles_told s w Renew (ask_fault s.asker w.cmds w.down Renew) refl h
+settles_kept s w steps.Close h = settles_told s w Close (ask_fault s.asker w.cmds w.down Close) refl h
+settles_kept s w (steps.Tick n) h = record { settled = h.settled; front = h.front; last = h.last }
+settles_kept s w (steps.Up n) h = record { settled = h.settled; front = h.front; last = h.last }
+settles_kept s w (steps.Down n) h =
     settles_came s w (map (at (moment_of w.clock)) (take n (drop (length w.down) (server_stream s w)))) (client_fault s.asker w.cmds (delivered w.clock w.down n (server_stream s w))) refl h
 
 -- ---- all of it
@@ -106,22 +106,22 @@ pub record Base (s : Setup) (w : World) : Type 0 where
   pub timely : AreTimely w
   pub settles : Settles s w
 
-pub base_begun : (flight : InFlight) (s : Setup) → IsSetup s → Base s (begun s)
-base_begun flight s h = record {
-  flow = flow flight s [];
+pub base_begun : (s : Setup) → IsSetup s → Base s (begun s)
+base_begun s h = record {
+  flow = flow s [];
   asks = asks_begun s;
   cut = tt;
   timely = record { clock = h.start; up = tt; down = tt };
   settles = record { settled = inl refl; front = prefix_self []; last = tt };
 }
 
-pub base_kept : (flight : InFlight) (s : Setup) → IsSetup s → (w : World) (e : Step) → Base s w → Base s (happens flight s w e)
-base_kept flight s h w e i = record {
-  flow = flow_kept flight s w i.flow e;
-  asks = asks_kept flight s w i.asks e;
-  cut = cut_kept flight s w e h.asker.config.buffer_most i.cut;
-  timely = timely_kept flight s w e i.timely;
-  settles = settles_kept flight s w e i.settles;
+pub base_kept : (s : Setup) → IsSetup s → (w : World) (e : Step) → Base s w → Base s (happens s w e)
+base_kept s h w e i = record {
+  flow = flow_kept s w i.flow e;
+  asks = asks_kept s w i.asks e;
+  cut = cut_kept s w e h.asker.config.buffer_most i.cut;
+  timely = timely_kept s w e i.timely;
+  settles = settles_kept s w e i.settles;
 }
 
 -- ---- what follows

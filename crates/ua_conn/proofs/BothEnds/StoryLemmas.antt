@@ -1,31 +1,32 @@
 -- What was delivered each way in a story, as frames: the first of what was sent, and less than the next.
 use mathlib.Core.List.{IsPrefix}
-use Rattle.std.proofs.Common.{◌≡◌, ℕ, ◌+◌, ◌<◌, ◌≤◌, ◌^◌, Bool, true, false, not, ◌||◌, ◌&&◌, is_some, List, [], ◌∷◌, ◌++◌, map, length, Option, Some, None, refl, sym, ap, subst, ◌∙◌, arith}
+use Rattle.std.proofs.Common.{◌≡◌, ℕ, ◌+◌, ◌<◌, ◌≤◌, ◌^◌, Bool, true, false, not, is_some, List, [], ◌∷◌, ◌++◌, map, length, Option, Some, None, refl, sym, ap, subst, ◌∙◌, arith}
 use Rattle.std.specs.List.{AllByRecursion}
 use Rattle.std.specs.Prelude.{◌==◌, nat_le, nat_lt, IfSome, option_map}
-use Rattle.std.proofs.lemmas.Bool.{and_parts, leb-true, ltb-false}
-use Rattle.ua_frame.specs.Layout.{kind_of, flag_of, frames_of}
-use Rattle.ua_frame.specs.Streams.{rest_of}
+use Rattle.std.proofs.lemmas.Bool.{and_parts, leb-true, ltb-false, not-false, or_parts}
+use Rattle.ua_frame.specs.Rows.{first_row}
+use Rattle.ua_frame.specs.Layout.{kind_of, flag_of, frames_of, Frame}
+use Rattle.ua_frame.specs.Streams.{rest_of, TimedByte, plain}
 use Rattle.ua_frame.specs.HeaderRows.{header_fault}
-use Rattle.ua_frame.specs.declared.kind.Kind.{Kind}
 use Rattle.ua_frame.specs.declared.kind.Kind.TheVariants as kinds
 use Rattle.ua_frame.specs.declared.acknowledge.Ack.{Ack}
-use Rattle.ua_conn.specs.Past.{carried}
-use Rattle.ua_conn.specs.client.Past.{is_acknowledge, is_acknowledge_frame, acknowledge_in}
+use Rattle.ua_conn.specs.Past.{carried, Past}
+use Rattle.ua_conn.specs.client.Past.{is_acknowledge, is_acknowledge_frame, acknowledge_in, ClientKnown, client_known, acknowledge_frame_in}
 use Rattle.ua_conn.specs.client.Machine.{or_ack, client_known_after}
-use Rattle.ua_conn.specs.client.Faults.{first_of, broken, or_fault, greatest_answer, is_awaited, acknowledge_rows, client_rows, client_fault_by, token_usable}
-use Rattle.ua_conn.specs.client.Reading.{ClientReading, client_fault_at, client_reading, client_fault}
-use Rattle.ua_conn.specs.client.Pending.{bytes_in, due_at, wanted_at}
-use Rattle.ua_conn.specs.client.Asking.{standing, asking_rows, greatest_part, is_too_large, ask_fault}
-use Rattle.ua_conn.specs.Story.{begun, delivered, told_by, came_by, happens, run}
+use Rattle.ua_conn.specs.client.Faults.{broken, greatest_answer, is_awaited, acknowledge_rows, client_rows, client_fault_by, token_usable}
+use Rattle.ua_conn.specs.client.Reading.{client_fault_at, client_reading, client_fault, client_reading_of}
+use Rattle.ua_conn.specs.client.Pending.{bytes_in, due_at, wanted_at, come_by}
+use Rattle.ua_conn.specs.client.Asking.{standing, asking_rows, greatest_part, ask_fault}
+use Rattle.ua_conn.specs.Story.{delivered, told_by, came_by, happens, Setup, World, client_stream, server_stream}
 use Rattle.ua_conn.specs.declared.schedule.Step.TheVariants as steps
 use Rattle.ua_conn.specs.declared.client.ask_fault.AskFault.{AskFault}
-use Rattle.ua_conn.specs.declared.client.ask_fault.AskFault.TheVariants.{Ended, NotOpen, BadPartLimit, RenewPending, TooManyPending, IdsSpent, TooLarge}
+use Rattle.ua_conn.specs.declared.client.ask_fault.AskFault.TheVariants.{Ended, NotOpen}
 use Rattle.ua_conn.specs.declared.client.fault.ClientFault.{ClientFault}
 use Rattle.ua_conn.specs.declared.client.fault.ClientFault.TheVariants.{Broken}
+use Rattle.ua_conn.proofs.ClientEnd.ReadingLemmas.{along_reading}
+use Rattle.ua_conn.proofs.KindLemmas.{is_acknowledge_tells}
+use Rattle.ua_conn.proofs.TableLemmas.{all_no, or_none, first_passes}
 use Rattle.ua_conn.proofs.ClientEnd.KnownLemmas.{client_known_step}
-use Rattle.ua_frame.specs.Streams.{TimedByte, plain}
-use Rattle.ua_frame.specs.Layout.{Frame}
 use Rattle.ua_frame.specs.Hello.{is_long, is_acceptable, is_size}
 use Rattle.ua_frame.specs.Beginnings.{joined}
 use Rattle.ua_chunk.specs.Cut.{Part, fill}
@@ -33,24 +34,12 @@ use Rattle.ua_chunk.specs.Numbers.{number_after}
 use Rattle.ua_chunk.specs.FrameLaws.{IsPartOf, fill_parts}
 use Rattle.ua_channel.specs.Token.{newest_id}
 use Rattle.ua_service.specs.Requests.{canon_request}
-use Rattle.ua_service.specs.ValueLaws.{open_request_length, close_request_length}
-use Rattle.ua_disco.specs.Bounds.{IsLimits}
-use Rattle.ua_conn.specs.Past.{Past}
-use Rattle.ua_conn.specs.server.Feeding.{replies_of}
 use Rattle.ua_conn.specs.client.Asker.{Asker, hello_by}
 use Rattle.ua_conn.specs.client.Commands.{Act, Ask, Renew, Close, Command, Commands, next_id}
-use Rattle.ua_conn.specs.client.Past.{ClientKnown, client_known, acknowledge_frame_in}
-use Rattle.ua_conn.specs.client.Pending.{come_by}
-use Rattle.ua_conn.specs.client.Questions.{open_asked_body, close_asked_body}
-use Rattle.ua_conn.specs.client.Reading.{client_reading_of}
 use Rattle.ua_conn.specs.client.Sending.{Sent, Greeting, Opening, Asking, Closing, sent_bytes, more_sent, sent_all, opens_by, act_says, commands_say, sent_by, client_sent}
-use Rattle.ua_conn.specs.client.Asking.{InFlight}
-use Rattle.ua_conn.specs.Story.{Setup, World, client_stream, server_stream, final}
-use Rattle.ua_conn.specs.BothEnds.{IsSetup}
 use Rattle.ua_conn.specs.declared.schedule.Step.{Step}
-use Rattle.ua_conn.proofs.BothEnds.FaithfulLemmas.{flow}
+use Rattle.ua_conn.proofs.ClientEnd.QuestionLemmas.{open_length, close_length}
 use Rattle.ua_conn.proofs.BothEnds.SpokenLemmas.{Spoken, Greets, Opens, Tells, Closes, spell, AreSized, spelled_list, BeginsSpoken, begins_spoken}
-use Rattle.ua_conn.proofs.BothEnds.SpokenReplyLemmas.{replies_spoken, reply_begins}
 
 -- ---- what a client sends, as values
 
@@ -106,14 +95,6 @@ IsCut Close = Unit {0}
 abbrev pub AreCut : Commands → Type 0
 AreCut cmds = AllByRecursion (λ (c : Command). IsCut c.act) cmds
 
-open_length : (now id type lifetime : ℕ) → length (open_asked_body now id type lifetime) ≡ 53
-unfolding open_asked_body
-open_length now id type lifetime = open_request_length now id type lifetime
-
-close_length : (now id : ℕ) → length (close_asked_body now id) ≡ 33
-unfolding close_asked_body
-close_length now id = close_request_length now id
-
 parts_sized : (channel token id k : ℕ) (parts : List Part) → 24 + k < 2 ^ 32 → AllByRecursion (IsPartOf id k) parts → HaveSizes (map (Asking channel token) parts)
 parts_sized channel token id k [] lt h = tt
 parts_sized channel token id k (p ∷ parts) lt h = (omega (arith, lt, h.0.size), parts_sized channel token id k parts lt h.1)
@@ -147,56 +128,18 @@ up_begins s w p url cut =
     begins_spoken (all_spoken s.asker.first_sequence 0 xs) w.up p.0 (all_sized s.asker.first_sequence 0 xs (sent_sized s.asker w.cmds (client_reading_of s.asker w.cmds w.down).past url cut))
     (p.1 ∙ all_spelled s.asker.first_sequence 0 xs)
 
--- What was delivered to the client: the first frames that the server says, and less than the next.
-pub down_begins : (s : Setup) (w : World) → IsPrefix (plain w.down) (server_stream s w) → IsLimits s.site.settings.limits → BeginsSpoken w.down (replies_spoken s.site 0 (replies_of s.site w.up))
-down_begins s w p limits = reply_begins s.site w.up w.down p.0 (omega (arith, limits.send_most)) p.1
-
--- after every schedule
-pub story_down : (flight : InFlight) (s : Setup) (schedule : List Step) → IsSetup s → (let w = final flight s schedule in BeginsSpoken w.down (replies_spoken s.site 0 (replies_of s.site w.up)))
-story_down flight s schedule h = let w = final flight s schedule in down_begins s w (flow flight s schedule).down h.site.settings.bounds.limits
-
 -- ---- the parts of every request fit
 
 Within : Asker → ClientKnown → Type 0
 Within a k = IfSome k.ack (λ ack. ack.receive ≤ a.config.buffer)
 
-or_none : (x y : Option ClientFault) → or_fault x y ≡ None → y ≡ None
-or_none None y h = h
-or_none (Some fault) y h = absurd cc
-
-behind_first : {S : Type 0} (b : Bool) (x : S) (rows : List (Bool × S)) → first_of ((b, x) ∷ rows) ≡ None → first_of rows ≡ None
-behind_first true x rows h = absurd cc
-behind_first false x rows h = h
-
-row_false : {S : Type 0} (b : Bool) (x : S) (rows : List (Bool × S)) → first_of ((b, x) ∷ rows) ≡ None → b ≡ false
-row_false true x rows h = absurd cc
-row_false false x rows h = refl
-
-not_false : (b : Bool) → not b ≡ false → b ≡ true
-not_false true h = refl
-not_false false h = absurd cc
-
-both_false : (b c : Bool) → (b || c) ≡ false → (b ≡ false) × (c ≡ false)
-both_false true c h = absurd cc
-both_false false c h = (refl, h)
-
-accepted_ack : (a : Asker) (o : Option Ack) → first_of (broken (acknowledge_rows a o)) ≡ None → IfSome o (λ ack. ack.receive ≤ a.config.buffer)
+accepted_ack : (a : Asker) (o : Option Ack) → first_row (broken (acknowledge_rows a o)) ≡ None → IfSome o (λ ack. ack.receive ≤ a.config.buffer)
 accepted_ack a None h = tt
 accepted_ack a (Some ack) h =
-    let fine : is_acceptable (hello_by a) ack ≡ true = not_false (is_acceptable (hello_by a) ack) (row_false (not (is_acceptable (hello_by a) ack)) (Broken 0x80810000) [] h) in
+    let fine : is_acceptable (hello_by a) ack ≡ true = not-false (is_acceptable (hello_by a) ack) (all_no (broken (acknowledge_rows a (Some ack))) h).0 in
     let sizes = and_parts (is_size a.config.buffer ack.receive) (is_size a.config.buffer ack.send) fine in
     let ends = and_parts (nat_le 8192 ack.receive) (nat_le ack.receive a.config.buffer) sizes.0 in
     leb-true ack.receive a.config.buffer ends.1
-
-is_acknowledge_tells : (kind : Option Kind) → is_acknowledge kind ≡ true → kind ≡ Some kinds.Acknowledge
-is_acknowledge_tells None h = absurd cc
-is_acknowledge_tells (Some kinds.Hello) h = absurd cc
-is_acknowledge_tells (Some kinds.Acknowledge) h = refl
-is_acknowledge_tells (Some kinds.Error) h = absurd cc
-is_acknowledge_tells (Some kinds.ReverseHello) h = absurd cc
-is_acknowledge_tells (Some kinds.Open) h = absurd cc
-is_acknowledge_tells (Some kinds.Message) h = absurd cc
-is_acknowledge_tells (Some kinds.Close) h = absurd cc
 
 or_within : (a : Asker) (o n : Option Ack) (test : Bool) → IfSome o (λ ack. ack.receive ≤ a.config.buffer) → (test ≡ true → IfSome n (λ ack. ack.receive ≤ a.config.buffer)) → IfSome (or_ack o test n) (λ ack. ack.receive ≤ a.config.buffer)
 or_within a None n true h k = k refl
@@ -215,21 +158,15 @@ step_within a cmds past f h w =
     let due = due_at cmds past end in
     let wanted = wanted_at cmds past end (carried f).request_id in
     let usable = token_usable k f in
-    let rows = or_none (option_map Broken (header_fault (greatest_answer k.ack) f.bytes)) (first_of (client_rows a k due wanted usable f (flag_of f.bytes) (kind_of f.bytes))) h in
+    let rows = or_none (option_map Broken (header_fault (greatest_answer k.ack) f.bytes)) (first_row (client_rows a k due wanted usable f (flag_of f.bytes) (kind_of f.bytes))) h in
     let new : is_acknowledge_frame f ≡ true → IfSome (acknowledge_in f) (λ ack. ack.receive ≤ a.config.buffer) = λ t.
     (let kind : kind_of f.bytes ≡ Some kinds.Acknowledge = is_acknowledge_tells (kind_of f.bytes) (and_parts (is_acknowledge (kind_of f.bytes)) (is_some (acknowledge_in f)) t).0 in
-    let there : first_of (client_rows a k due wanted usable f (flag_of f.bytes) (Some kinds.Acknowledge)) ≡ None = ap (λ o. first_of (client_rows a k due wanted usable f (flag_of f.bytes) o)) (sym kind) ∙ rows in
-    accepted_ack a (acknowledge_in f) (behind_first (not (is_awaited k due (Some kinds.Acknowledge))) (Broken 0x807E0000) (broken (acknowledge_rows a (acknowledge_in f))) there)) in
+    let there : first_row (client_rows a k due wanted usable f (flag_of f.bytes) (Some kinds.Acknowledge)) ≡ None = ap (λ o. first_row (client_rows a k due wanted usable f (flag_of f.bytes) o)) (sym kind) ∙ rows in
+    accepted_ack a (acknowledge_in f) (first_passes (not (is_awaited k due (Some kinds.Acknowledge))) (Broken 0x807E0000) (first_row (broken (acknowledge_rows a (acknowledge_in f)))) there).1) in
     subst (λ o. IfSome o (λ ack. ack.receive ≤ a.config.buffer)) (sym (known_ack past f)) (or_within a k.ack (acknowledge_in f) (is_acknowledge_frame f) w new)
 
 reading_within : (a : Asker) (cmds : Commands) (past : Past) (fs : List Frame) (rest : List ℕ) → Within a (client_known past) → Within a (client_known (client_reading a cmds past fs rest).past)
-reading_within a cmds past [] rest h = h
-reading_within a cmds past (f ∷ fs) rest h = by (client_fault_at a cmds past f) refl (reading_within a cmds (f ∷ past) fs rest)
-  where
-    by : (o : Option ClientFault) → client_fault_at a cmds past f ≡ o → (Within a (client_known (f ∷ past)) → Within a (client_known (client_reading a cmds (f ∷ past) fs rest).past)) →
-        (let R : ClientReading = elim o [ Some fault ↦ record { past = past; fault = Some fault } | None ↦ client_reading a cmds (f ∷ past) fs rest ] in Within a (client_known R.past))
-    by (Some fault) e k = h
-    by None e k = k (step_within a cmds past f e h)
+reading_within a cmds past fs rest h = along_reading (λ before. Within a (client_known before)) a cmds (λ before f e. step_within a cmds before f e) past fs rest h
 
 nothing_within : (a : Asker) → Within a (client_known [])
 unfolding Within client_known
@@ -243,44 +180,30 @@ part_fits a k part most w le = by k.ack w le
     by None w le = omega (arith, le)
     by (Some ack) w le = omega (arith, le, w, most)
 
-told_cut : (flight : InFlight) (a : Asker) (cmds : Commands) (v : List TimedByte) (act : Act) → a.config.buffer ≤ 1048576 → ask_fault flight a cmds v act ≡ None → IsCut act
-told_cut flight a cmds v (Ask request part) most h =
+told_cut : (a : Asker) (cmds : Commands) (v : List TimedByte) (act : Act) → a.config.buffer ≤ 1048576 → ask_fault a cmds v act ≡ None → IsCut act
+told_cut a cmds v (Ask request part) most h =
     let r = client_reading_of a cmds v in
     let s = standing cmds r.past in
-    let rows = asking_rows flight s request part in
-    let asked = behind_first (not s.channel_open) NotOpen rows (behind_first (is_some r.fault) Ended ((not s.channel_open, NotOpen) ∷ rows) h) in
-    let others : List (Bool × AskFault) = (not flight.together && s.renewing, RenewPending) ∷ (nat_le flight.requests s.pending, TooManyPending) ∷ (nat_lt 4294967295 s.next_id, IdsSpent) ∷ (is_too_large s.ack part request, TooLarge) ∷ [] in
-    let limit = row_false (part == 0 || nat_lt (greatest_part s.ack) part) BadPartLimit others asked in
-    let short : part ≤ greatest_part s.ack = ltb-false (greatest_part s.ack) part (both_false (part == 0) (nat_lt (greatest_part s.ack) part) limit).1 in
+    let no = all_no ((is_some r.fault, Ended) ∷ (not s.channel_open, NotOpen) ∷ asking_rows s request part) h in
+    let short : part ≤ greatest_part s.ack = ltb-false (greatest_part s.ack) part (or_parts (part == 0) (nat_lt (greatest_part s.ack) part) no.1.1.0).1 in
     part_fits a (client_known r.past) part most (reading_within a cmds [] (frames_of v) (plain (rest_of v)) (nothing_within a)) short
-told_cut flight a cmds v Renew most h = tt
-told_cut flight a cmds v Close most h = tt
+told_cut a cmds v Renew most h = tt
+told_cut a cmds v Close most h = tt
 
-cut_told : (flight : InFlight) (s : Setup) (w : World) (act : Act) (o : Option AskFault) → s.asker.config.buffer ≤ 1048576 → ask_fault flight s.asker w.cmds w.down act ≡ o → AreCut w.cmds → AreCut (told_by w act o).cmds
-cut_told flight s w act (Some reason) most e h = h
-cut_told flight s w act None most e h = (told_cut flight s.asker w.cmds w.down act most e, h)
+cut_told : (s : Setup) (w : World) (act : Act) (o : Option AskFault) → s.asker.config.buffer ≤ 1048576 → ask_fault s.asker w.cmds w.down act ≡ o → AreCut w.cmds → AreCut (told_by w act o).cmds
+cut_told s w act (Some reason) most e h = h
+cut_told s w act None most e h = (told_cut s.asker w.cmds w.down act most e, h)
 
 cut_came : (w : World) (v : List TimedByte) (o : Option ClientFault) → AreCut w.cmds → AreCut (came_by w v o).cmds
 cut_came w v (Some fault) h = h
 cut_came w v None h = h
 
-pub cut_kept : (flight : InFlight) (s : Setup) (w : World) (e : Step) → s.asker.config.buffer ≤ 1048576 → AreCut w.cmds → AreCut (happens flight s w e).cmds
-cut_kept flight s w (steps.Ask request part) most h = cut_told flight s w (Ask request part) (ask_fault flight s.asker w.cmds w.down (Ask request part)) most refl h
-cut_kept flight s w steps.Renew most h = cut_told flight s w Renew (ask_fault flight s.asker w.cmds w.down Renew) most refl h
-cut_kept flight s w steps.Close most h = cut_told flight s w Close (ask_fault flight s.asker w.cmds w.down Close) most refl h
-cut_kept flight s w (steps.Tick n) most h = h
-cut_kept flight s w (steps.Up n) most h = h
-cut_kept flight s w (steps.Down n) most h =
+pub cut_kept : (s : Setup) (w : World) (e : Step) → s.asker.config.buffer ≤ 1048576 → AreCut w.cmds → AreCut (happens s w e).cmds
+cut_kept s w (steps.Ask request part) most h = cut_told s w (Ask request part) (ask_fault s.asker w.cmds w.down (Ask request part)) most refl h
+cut_kept s w steps.Renew most h = cut_told s w Renew (ask_fault s.asker w.cmds w.down Renew) most refl h
+cut_kept s w steps.Close most h = cut_told s w Close (ask_fault s.asker w.cmds w.down Close) most refl h
+cut_kept s w (steps.Tick n) most h = h
+cut_kept s w (steps.Up n) most h = h
+cut_kept s w (steps.Down n) most h =
     let v = delivered w.clock w.down n (server_stream s w) in
     cut_came w v (client_fault s.asker w.cmds v) h
-
-cut_run : (flight : InFlight) (s : Setup) (es : List Step) (w : World) → s.asker.config.buffer ≤ 1048576 → AreCut w.cmds → AreCut (run flight s w es).cmds
-cut_run flight s [] w most h = h
-cut_run flight s (e ∷ es) w most h = cut_run flight s es (happens flight s w e) most (cut_kept flight s w e most h)
-
--- after every schedule
-pub story_up : (flight : InFlight) (s : Setup) (schedule : List Step) → IsSetup s
-    → (let w = final flight s schedule in BeginsSpoken w.up (all_spoken s.asker.first_sequence 0 (client_sent s.asker w.cmds w.down)))
-story_up flight s schedule h =
-    let w = final flight s schedule in
-    up_begins s w (flow flight s schedule).up h.asker.url (cut_run flight s schedule (begun s) h.asker.config.buffer_most tt)

@@ -11,7 +11,6 @@ use Rattle.ua_conn.specs.server.Feeding.{replies_of}
 use Rattle.ua_conn.specs.server.Replies.{numbered_after, replies, reading_of, fault_of, first_fault, end_of}
 use Rattle.ua_conn.specs.server.Held.{stop}
 use Rattle.ua_conn.specs.client.Reading.{ClientReading, client_reading_of}
-use Rattle.ua_conn.specs.client.Asking.{InFlight}
 use Rattle.ua_conn.specs.Story.{Setup, World, final}
 use Rattle.ua_conn.specs.BothEnds.{AllAfter, IsSetup, TokensLive, NothingRefused}
 use Rattle.ua_conn.specs.declared.outcome.End.{End}
@@ -90,8 +89,8 @@ calm_end TurnsSpent h = inl refl
 calm_end NoMemory h = inl refl
 calm_end (Refused status) h = absurd (cc h)
 
-pub unrefused_law : (flight : InFlight) → NothingRefused flight
-unrefused_law flight s schedule h is live =
-    let w = final flight s schedule in
-    let l = lives s h w (inv flight s h schedule is) live in
+pub unrefused_law : NothingRefused
+unrefused_law s schedule h is live =
+    let w = final s schedule in
+    let l = lives s h w (inv s h schedule is) live in
     (calm_end (end_of s.site w.up) l.calm, ap (λ (R : ClientReading). R.fault) l.reads)

@@ -4,6 +4,7 @@ use Rattle.std.proofs.Common.{◌≡◌, ℕ, ◌<◌, ◌^◌, Bool, true, fals
 use Rattle.std.specs.Prelude.{option_map}
 use Rattle.std.specs.List.{AllByRecursion}
 use Rattle.std.proofs.lemmas.List.{map-append}
+use Rattle.ua_frame.specs.Rows.{first_row}
 use Rattle.ua_frame.specs.Streams.{TimedByte, plain, rest_of}
 use Rattle.ua_frame.specs.Layout.{Frame, frames_of, kind_of, flag_of}
 use Rattle.ua_frame.specs.HeaderRows.{header_fault}
@@ -21,7 +22,7 @@ use Rattle.ua_conn.specs.client.Asker.{Asker}
 use Rattle.ua_conn.specs.client.Commands.{Commands}
 use Rattle.ua_conn.specs.client.Past.{client_known, error_in}
 use Rattle.ua_conn.specs.client.Pending.{bytes_in, due_at, wanted_at}
-use Rattle.ua_conn.specs.client.Faults.{first_of, greatest_answer, error_rows, client_rows, client_fault_by, token_usable}
+use Rattle.ua_conn.specs.client.Faults.{greatest_answer, error_rows, client_rows, client_fault_by, token_usable}
 use Rattle.ua_conn.specs.client.Reading.{ClientReading, client_fault_at, client_reading, client_reading_of}
 use Rattle.ua_conn.specs.client.Sending.{Sent}
 use Rattle.ua_conn.specs.Story.{Setup}
@@ -30,7 +31,7 @@ use Rattle.ua_conn.specs.declared.client.fault.ClientFault.{ClientFault}
 use Rattle.ua_conn.specs.declared.client.fault.ClientFault.TheVariants.{Broken}
 use Rattle.ua_conn.specs.declared.outcome.End.{End}
 use Rattle.ua_conn.specs.declared.outcome.End.TheVariants.{Closed, InputEnded, Truncated, Refused, LinkFailed, TurnsSpent, NoMemory}
-use Rattle.ua_conn.proofs.ClientEnd.FreshLemmas.{or_none}
+use Rattle.ua_conn.proofs.TableLemmas.{or_none}
 use Rattle.ua_conn.proofs.BothEnds.FaithfulLemmas.{prefix_trans}
 use Rattle.ua_conn.proofs.BothEnds.FrameListLemmas.{are_join, placed, placed_are, placed_timely, timely_join, replied_cut, replies_begin}
 use Rattle.ua_conn.proofs.BothEnds.InvariantForms.{Comes}
@@ -101,7 +102,7 @@ client_stands a cmds past (f ∷ fs) rest = by (client_fault_at a cmds past f) r
 
 -- ---- an ERR never stands
 
-error_holds : (o : Option ErrorFrame) → first_of (error_rows o) ≡ None → ⊥
+error_holds : (o : Option ErrorFrame) → first_row (error_rows o) ≡ None → ⊥
 error_holds None h = cc h
 error_holds (Some e) h = cc h
 
@@ -114,8 +115,8 @@ error_refused a cmds past f status e h =
     let wanted = wanted_at cmds past end (carried f).request_id in
     let usable = token_usable k f in
     let kind : kind_of f.bytes ≡ Some kinds.Error = ap kind_of e ∙ (spell_is (Fails status) tt).kind in
-    let rows = or_none (option_map Broken (header_fault (greatest_answer k.ack) f.bytes)) (first_of (client_rows a k due wanted usable f (flag_of f.bytes) (kind_of f.bytes))) h in
-    error_holds (error_in f) (ap (λ o. first_of (client_rows a k due wanted usable f (flag_of f.bytes) o)) (sym kind) ∙ rows)
+    let rows = or_none (option_map Broken (header_fault (greatest_answer k.ack) f.bytes)) (first_row (client_rows a k due wanted usable f (flag_of f.bytes) (kind_of f.bytes))) h in
+    error_holds (error_in f) (ap (λ o. first_row (client_rows a k due wanted usable f (flag_of f.bytes) o)) (sym kind) ∙ rows)
 
 abbrev pub is_failed : Reply → Bool
 is_failed (Failed status) = true

@@ -4,7 +4,7 @@ use Rattle.std.specs.Prelude.{pos, codes, flat_map, drop, ◌&&◌}
 use Rattle.std.specs.Int.{w64, to_le_bytes}
 use Rattle.std.specs.Str.{is_utf8, chars, bytes_eq}
 use lib.Utf8.{encode}
-use Rattle.ua_value.specs.Number.{unsigned}
+use Rattle.ua_value.specs.Number.{unsigned, signed}
 use Rattle.ua_value.specs.Text.{bytes_of}
 use Rattle.ua_frame.specs.Streams.{cuts_within, rest_within, size_of}
 use Rattle.ua_frame.specs.Layout.{kind_of}
@@ -12,7 +12,6 @@ use Rattle.ua_frame.specs.Hello.{hello_layout, acknowledge_layout, error_layout}
 use Rattle.ua_chunk.specs.Layout.{open_header, chunk_header, abort_body, open_chunk_of, chunk_of, abort_of}
 use Rattle.ua_chunk.specs.Cut.{fill}
 use Rattle.ua_chunk.specs.Written.{open_frame, chunk_frame}
-use Rattle.ua_value.specs.Number.{signed}
 use Rattle.ua_value.specs.Node.{node_id}
 use Rattle.ua_value.specs.Date.{date_time}
 use Rattle.ua_value.specs.Localized.{localized_text}
@@ -25,7 +24,7 @@ use Rattle.ua_service.specs.declared.request.Request.{Request}
 use Rattle.ua_service.specs.Message.{message}
 use Rattle.ua_service.specs.Requests.{request_of}
 use Rattle.ua_service.specs.Responses.{response_of}
-use Rattle.ua_service.specs.Headers.{request_header, response_header, service_fault}
+use Rattle.ua_service.specs.Headers.{request_header_at, request_header, response_header, service_fault}
 use Rattle.ua_service.specs.Channel.{open_request, open_response, close_request}
 use Rattle.ua_service.specs.Discovery.{find_servers_request, find_servers_response, get_endpoints_request, get_endpoints_response}
 use Rattle.ua_service.specs.Application.{application_description}
@@ -40,9 +39,8 @@ use Rattle.ua_conn.specs.client.Asker.{Asker}
 use Rattle.ua_conn.specs.client.Past.{client_known}
 use Rattle.ua_conn.specs.client.Faults.{client_fault_by, client_fault_in_rest}
 use Rattle.ua_conn.specs.client.Reading.{answer_at}
-use Rattle.ua_conn.specs.client.Questions.{request_header_at, open_asked_body, close_asked_body}
+use Rattle.ua_conn.specs.client.Questions.{open_asked_body, close_asked_body}
 use Rattle.ua_conn.specs.client.Sending.{sent_bytes}
-use Rattle.ua_conn.specs.client.Asking.{many, one_at_a_time}
 use Rattle.ua_conn.specs.BothEnds.{expected}
 use Rattle.ua_conn.specs.Story.{Setup, World, Story, final, story_in}
 use Rattle.ua_conn.specs.declared.schedule.Step.{Step}
@@ -50,11 +48,11 @@ use Rattle.ua_conn.specs.declared.schedule.Step.TheVariants.{Ask, Renew, Close, 
 use Rattle.ua_conn.specs.declared.outcome.End.{End}
 use Rattle.ua_conn.specs.declared.outcome.End.TheVariants.{Closed}
 use Rattle.ua_conn.specs.declared.client.fault.ClientFault.{ClientFault}
-use Rattle.ua_conn.specs.client.Commands.{Act, Commands}
+use Rattle.ua_conn.specs.client.Commands.{Act}
 use Rattle.ua_conn.specs.client.Commands as commands
-use Rattle.ua_conn.specs.client.Asking.{InFlight, ask_fault}
+use Rattle.ua_conn.specs.client.Asking.{ask_fault}
 use Rattle.ua_conn.specs.declared.client.ask_fault.AskFault.{AskFault}
-use Rattle.ua_conn.specs.declared.client.ask_fault.AskFault.TheVariants.{NotOpen, TooLarge, TooManyPending, RenewPending, StillPending, BadPartLimit}
+use Rattle.ua_conn.specs.declared.client.ask_fault.AskFault.TheVariants.{NotOpen, TooLarge, RenewPending, StillPending, BadPartLimit}
 use Rattle.ua_conn.specs.declared.client.answer.Answer.{Answer}
 use Rattle.ua_conn.specs.declared.client.answer.AnswerResult.{AnswerResult}
 use Rattle.ua_conn.specs.declared.client.answer.AnswerResult.TheVariants.{Response, Aborted}
@@ -105,7 +103,7 @@ abbrev pub down : Step
 down = Down 100000
 
 abbrev pub world_of : Setup → List Step → World
-world_of s steps = final many s (opening_steps ++ steps)
+world_of s steps = final s (opening_steps ++ steps)
 
 abbrev pub told_by : Setup → List Step → Story
 told_by s steps = story_in s (world_of s steps)
@@ -137,8 +135,8 @@ abbrev pub Ends : Story → List ℕ → List ℕ → Option End → Option Clie
 Ends story answered results server client =
     (ids story ≡ answered) × (statuses story ≡ results) × (story.server_end ≡ server) × (story.client_fault ≡ client)
 
-abbrev pub refuses : InFlight → List Step → Act → Option AskFault
-refuses flight steps act = let w = world_of plain_setup steps in ask_fault flight asker w.cmds w.down act
+abbrev pub refuses : List Step → Act → Option AskFault
+refuses steps act = let w = world_of plain_setup steps in ask_fault asker w.cmds w.down act
 
 -- a request with a token and its answer, a renewal and its answer: token, sequence number, request id
 abbrev pub request : ℕ → ℕ → List ℕ
@@ -171,10 +169,10 @@ one_request = (refl, (refl, refl, refl, refl), refl, refl)
 -- in 35 parts, a byte at a time at first
 in_parts : Ends (told (Ask (endpoints 2) 2 ∷ Up 1 ∷ Up 0 ∷ up ∷ Down 7 ∷ down ∷ [])) (2 ∷ []) (0 ∷ []) None None
     × (length (told (Ask (endpoints 2) 2 ∷ [])).up ≡ 188 + 69 + 35 * 24)
-    × (refuses many [] (commands.Ask (endpoints 2) 1) ≡ Some TooLarge)
-    × (refuses many [] (commands.Ask (endpoints 2) 0) ≡ Some BadPartLimit)
-    × (refuses many [] (commands.Ask (endpoints 2) 65512) ≡ Some BadPartLimit)
-    × (refuses many [] (commands.Ask (endpoints 2) 65511) ≡ None)
+    × (refuses [] (commands.Ask (endpoints 2) 1) ≡ Some TooLarge)
+    × (refuses [] (commands.Ask (endpoints 2) 0) ≡ Some BadPartLimit)
+    × (refuses [] (commands.Ask (endpoints 2) 65512) ≡ Some BadPartLimit)
+    × (refuses [] (commands.Ask (endpoints 2) 65511) ≡ None)
 unfolding cuts_within rest_within size_of kind_of hello_layout acknowledge_layout error_layout open_header chunk_header abort_body open_chunk_of chunk_of abort_of fill open_frame chunk_frame unsigned bytes_of is_utf8 chars encode known fault_at fault_in_rest reply_to handed_at spelled answer_body opened_body message request_of response_of request_header response_header open_request open_response close_request service_fault find_servers_request get_endpoints_request find_servers_response get_endpoints_response application_description endpoint_description user_token_policy localized_text answer_of servers_found endpoints_found node_id date_time status_code extension_object extension_body signed array items_at diagnostic within diagnostic_parts client_known client_fault_by client_fault_in_rest answer_at open_asked_body close_asked_body sent_bytes expected
 in_parts = ((refl, refl, refl, refl), refl, refl, refl, refl, refl)
 
@@ -199,22 +197,19 @@ large_answer = ((refl, refl, refl, refl), (refl, refl, refl, refl))
 
 -- what is closed is not asked any more
 closing : Ends (told (Ask (find 2) 69 ∷ up ∷ down ∷ Close ∷ Ask (find 4) 69 ∷ up ∷ down ∷ [])) (2 ∷ []) (0 ∷ []) (Some Closed) None
-    × (refuses many (Close ∷ []) (commands.Ask (find 3) 69) ≡ Some NotOpen)
-    × (refuses many (Ask (find 2) 69 ∷ []) commands.Close ≡ Some StillPending)
-    × (refuses many (Renew ∷ []) commands.Close ≡ Some RenewPending)
-    × (refuses many (Renew ∷ []) commands.Renew ≡ Some RenewPending)
+    × (refuses (Close ∷ []) (commands.Ask (find 3) 69) ≡ Some NotOpen)
+    × (refuses (Ask (find 2) 69 ∷ []) commands.Close ≡ Some StillPending)
+    × (refuses (Renew ∷ []) commands.Close ≡ Some RenewPending)
+    × (refuses (Renew ∷ []) commands.Renew ≡ Some RenewPending)
 unfolding cuts_within rest_within size_of kind_of hello_layout acknowledge_layout error_layout open_header chunk_header abort_body open_chunk_of chunk_of abort_of fill open_frame chunk_frame unsigned bytes_of is_utf8 chars encode known fault_at fault_in_rest reply_to handed_at spelled answer_body opened_body message request_of response_of request_header response_header open_request open_response close_request service_fault find_servers_request get_endpoints_request find_servers_response get_endpoints_response application_description endpoint_description user_token_policy localized_text answer_of servers_found endpoints_found node_id date_time status_code extension_object extension_body signed array items_at diagnostic within diagnostic_parts client_known client_fault_by client_fault_in_rest answer_at open_asked_body close_asked_body sent_bytes expected
 closing = ((refl, refl, refl, refl), refl, refl, refl, refl)
 
--- one at a time, and many
-flights : (refuses one_at_a_time (Ask (find 2) 69 ∷ []) (commands.Ask (find 3) 69) ≡ Some TooManyPending)
-    × (refuses one_at_a_time (Renew ∷ []) (commands.Ask (find 3) 69) ≡ Some RenewPending)
-    × (refuses one_at_a_time (Ask (find 2) 69 ∷ []) commands.Renew ≡ Some StillPending)
-    × (refuses many (Ask (find 2) 69 ∷ []) (commands.Ask (find 3) 69) ≡ None)
-    × (refuses many (Renew ∷ []) (commands.Ask (find 3) 69) ≡ None)
-    × (refuses many (Ask (find 2) 69 ∷ []) commands.Renew ≡ None)
+-- a request beside another and beside a renewal, and a renewal beside a request
+beside : (refuses (Ask (find 2) 69 ∷ []) (commands.Ask (find 3) 69) ≡ None)
+    × (refuses (Renew ∷ []) (commands.Ask (find 3) 69) ≡ None)
+    × (refuses (Ask (find 2) 69 ∷ []) commands.Renew ≡ None)
 unfolding cuts_within rest_within size_of kind_of hello_layout acknowledge_layout error_layout open_header chunk_header abort_body open_chunk_of chunk_of abort_of fill open_frame chunk_frame unsigned bytes_of is_utf8 chars encode known fault_at fault_in_rest reply_to handed_at spelled answer_body opened_body message request_of response_of request_header response_header open_request open_response close_request service_fault find_servers_request get_endpoints_request find_servers_response get_endpoints_response application_description endpoint_description user_token_policy localized_text answer_of servers_found endpoints_found node_id date_time status_code extension_object extension_body signed array items_at diagnostic within diagnostic_parts client_known client_fault_by client_fault_in_rest answer_at open_asked_body close_asked_body sent_bytes expected
-flights = (refl, refl, refl, refl, refl, refl)
+beside = (refl, refl, refl)
 
 -- the close request, with the moment and the id
 closed_bytes : is_said (told (Ask (find 2) 69 ∷ up ∷ down ∷ Close ∷ up ∷ [])) (hello ++ open_first ++ find_first ++ close_first) (acknowledge ++ opened_first ++ found_first) ≡ true
@@ -223,14 +218,14 @@ closed_bytes = refl
 
 -- the moments of what is said are those of the steps: the Acknowledge's, and each command's
 moments : let story = told_by plain_setup (Tick 5 ∷ Renew ∷ []) in
-    let later = story_in plain_setup (final many plain_setup (Up 56 ∷ Tick 7 ∷ Down 28 ∷ [])) in
+    let later = story_in plain_setup (final plain_setup (Up 56 ∷ Tick 7 ∷ Down 28 ∷ [])) in
     (bytes_eq (drop 188 story.up) (open_with 1 policy_uri 2 2 (open_body_at 5 2 1)) ≡ true)
     × (bytes_eq (drop 56 later.up) (open_with 0 policy_uri 1 1 (open_body_at 7 1 0)) ≡ true)
 unfolding cuts_within rest_within size_of kind_of hello_layout acknowledge_layout error_layout open_header chunk_header abort_body open_chunk_of chunk_of abort_of fill open_frame chunk_frame unsigned bytes_of is_utf8 chars encode known fault_at fault_in_rest reply_to handed_at spelled answer_body opened_body message request_of response_of request_header response_header open_request open_response close_request service_fault find_servers_request get_endpoints_request find_servers_response get_endpoints_response application_description endpoint_description user_token_policy localized_text answer_of servers_found endpoints_found node_id date_time status_code extension_object extension_body signed array items_at diagnostic within diagnostic_parts client_known client_fault_by client_fault_in_rest answer_at open_asked_body close_asked_body sent_bytes expected
 moments = (refl, refl)
 
 -- before the Acknowledge nothing is open
-not_open : (let w = final many plain_setup [] in ask_fault many asker w.cmds w.down (commands.Ask (find 2) 69)) ≡ Some NotOpen
+not_open : (let w = final plain_setup [] in ask_fault asker w.cmds w.down (commands.Ask (find 2) 69)) ≡ Some NotOpen
 unfolding cuts_within rest_within size_of kind_of hello_layout acknowledge_layout error_layout open_header chunk_header abort_body open_chunk_of chunk_of abort_of fill open_frame chunk_frame unsigned bytes_of is_utf8 chars encode known fault_at fault_in_rest reply_to handed_at spelled answer_body opened_body message request_of response_of request_header response_header open_request open_response close_request service_fault find_servers_request get_endpoints_request find_servers_response get_endpoints_response application_description endpoint_description user_token_policy localized_text answer_of servers_found endpoints_found node_id date_time status_code extension_object extension_body signed array items_at diagnostic within diagnostic_parts client_known client_fault_by client_fault_in_rest answer_at open_asked_body close_asked_body sent_bytes expected
 not_open = refl
 

@@ -6,7 +6,7 @@ use Rattle.ua_frame.specs.Rows.{Row, first_row}
 use Rattle.ua_frame.specs.declared.acknowledge.Ack.{Ack}
 use Rattle.ua_frame.specs.declared.kind.Kind.{Kind}
 use Rattle.ua_chunk.specs.Layout.{Chunk, FlaggedChunk, abort_of}
-use Rattle.ua_chunk.specs.Half.{Half, body_of, may_have_id, other_request_id, message_too_large, abort_malformed, half_after, ends_message}
+use Rattle.ua_chunk.specs.Half.{Half, body_of, may_have_id, message_too_large, abort_malformed, half_after, ends_message}
 use Rattle.ua_chunk.specs.Gathered.{Gathered}
 use Rattle.ua_channel.specs.Channel.{Shown, numbered}
 use Rattle.ua_service.specs.declared.request.Request.{Request}
@@ -14,7 +14,7 @@ use Rattle.ua_service.specs.declared.response.Response.{Response}
 use Rattle.ua_service.specs.Responses.{response_of}
 use Rattle.ua_conn.specs.Past.{or_empty}
 use Rattle.ua_conn.specs.client.Past.{client_channel}
-use Rattle.ua_conn.specs.client.Faults.{first_of, broken, answer_rows, whole_rows}
+use Rattle.ua_conn.specs.client.Faults.{broken, answer_rows, whole_rows}
 use Rattle.ua_conn.specs.client.Reading.{answer_with}
 use Rattle.ua_conn.specs.client.Machine.{waiting_under, without}
 use Rattle.ua_conn.specs.client.Ranges.{client_known_of, client_running_of, IsHalf}
@@ -25,53 +25,23 @@ use Rattle.ua_conn.specs.declared.client.answer.Answer.{Answer}
 use Rattle.ua_conn.specs.declared.client.answer.AnswerResult.{AnswerResult}
 use Rattle.ua_conn.specs.declared.client.answer.AnswerResult.TheVariants as results
 use Rattle.ua_conn.specs.declared.client.fault.ClientFault.TheVariants.{Broken}
-use Rattle.ua_conn.proofs.ServerEnd.TableLemmas.{join_none, join_some}
+use Rattle.ua_conn.proofs.TableLemmas.{join_none, first_passes}
 use Rattle.ua_conn.proofs.ServerEnd.MessageLemmas.{IsChunkOf}
-use Rattle.ua_conn.proofs.ClientEnd.EffectLemmas.{broken_first, broken_status, broken_none, first_passes, given, waits_of}
-
--- ---- rows
-
--- a part that its channel refuses
-pub answer_unheard : (config : ClientConfig) (ack : Option Ack) (channel : Shown) (half : Option Half) (pending : List (ℕ × Request)) (due : Option ℕ) (now flag : ℕ) (o : Option Chunk) (status : ℕ) →
-    first_row (answer_heard_rows channel.channel now o) ≡ Some status → first_of (answer_effect config (waits_of ack channel half pending due) now flag o).rows ≡ Some (Broken status)
-answer_unheard config ack channel half pending due now flag o status h =
-    let c = or_empty o in
-    let heard = answer_heard_rows (client_channel (client_known_of ack channel half)) now o in
-    let more = answer_rows (asker_with config) (client_known_of ack channel half) (waiting_under c.request_id pending) flag c in
-    broken_status (heard ++ more) status (join_some heard more status h)
+use Rattle.ua_conn.proofs.ClientEnd.EffectLemmas.{broken_first, broken_none, given, waits_of}
 
 -- what the rows of a part say counts for the whole table
 answer_decides : (config : ClientConfig) (ack : Option Ack) (channel : Shown) (half : Option Half) (pending : List (ℕ × Request)) (due : Option ℕ) (now flag : ℕ) (o : Option Chunk) (c : Chunk) →
     o ≡ Some c → first_row (answer_heard_rows channel.channel now o) ≡ None →
-    first_of (answer_effect config (waits_of ack channel half pending due) now flag o).rows ≡ option_map Broken (first_row (answer_rows (asker_with config) (client_known_of ack channel half) (waiting_under c.request_id pending) flag c))
+    first_row (answer_effect config (waits_of ack channel half pending due) now flag o).rows ≡ option_map Broken (first_row (answer_rows (asker_with config) (client_known_of ack channel half) (waiting_under c.request_id pending) flag c))
 answer_decides config ack channel half pending due now flag o c e h =
     let d = or_empty o in
     let heard = answer_heard_rows (client_channel (client_known_of ack channel half)) now o in
     let more : Chunk → List Row = λ c. answer_rows (asker_with config) (client_known_of ack channel half) (waiting_under c.request_id pending) flag c in
     broken_first (heard ++ more d) ∙ ap (option_map Broken) (join_none heard (more d) h ∙ ap (λ o. first_row (more (or_empty o))) e)
 
-pub answer_of_other : (config : ClientConfig) (ack : Option Ack) (channel : Shown) (half : Option Half) (pending : List (ℕ × Request)) (due : Option ℕ) (now flag : ℕ) (o : Option Chunk) (c : Chunk) (status : ℕ) →
-    o ≡ Some c → first_row (answer_heard_rows channel.channel now o) ≡ None → first_row (other_request_id half c.request_id ∷ []) ≡ Some status →
-    first_of (answer_effect config (waits_of ack channel half pending due) now flag o).rows ≡ Some (Broken status)
-answer_of_other config ack channel half pending due now flag o c status e h r =
-    let more = answer_rows (asker_with config) (client_known_of ack channel half) (waiting_under c.request_id pending) flag c in
-    answer_decides config ack channel half pending due now flag o c e h ∙ ap (option_map Broken) (by (not (may_have_id half c.request_id)) _ r)
-  where
-    by : (b : Bool) (o : Option ℕ) → cond b (Some 0x807E0000) None ≡ Some status → cond b (Some 0x807E0000) o ≡ Some status
-    by true o e = e
-    by false o e = absurd (cc)
-
 passes_id : (b : Bool) (status : ℕ) (o : Option ℕ) → b ≡ true → cond (not b) (Some status) o ≡ o
 passes_id true status o h = refl
 passes_id false status o h = absurd (cc)
-
-pub answer_to_none : (config : ClientConfig) (ack : Option Ack) (channel : Shown) (half : Option Half) (pending : List (ℕ × Request)) (due : Option ℕ) (now flag : ℕ) (o : Option Chunk) (c : Chunk) →
-    o ≡ Some c → first_row (answer_heard_rows channel.channel now o) ≡ None → may_have_id half c.request_id ≡ true → waiting_under c.request_id pending ≡ None →
-    first_of (answer_effect config (waits_of ack channel half pending due) now flag o).rows ≡ Some (Broken 0x80090000)
-answer_to_none config ack channel half pending due now flag o c e h same none =
-    answer_decides config ack channel half pending due now flag o c e h
-    ∙ ap (λ w. option_map Broken (first_row (answer_rows (asker_with config) (client_known_of ack channel half) w flag c))) none
-    ∙ ap (option_map Broken) (passes_id (may_have_id half c.request_id) 0x807E0000 (Some 0x80090000) same)
 
 -- ---- a part of an answer that waits
 
@@ -89,7 +59,7 @@ gathered_are config ack channel g c flag request wanted b q w same =
 
 pub answer_rows_are : (config : ClientConfig) (ack : Option Ack) (channel : Shown) (g : Gathered) (pending : List (ℕ × Request)) (due : Option ℕ) (now flag : ℕ) (o : Option Chunk) (c : FlaggedChunk) (kind : Kind) (request : Request) →
     IsHalf config g → IsChunkOf kind flag o c → first_row (answer_heard_rows channel.channel now o) ≡ None → may_have_id g.half c.chunk.request_id ≡ true → waiting_under c.chunk.request_id pending ≡ Some request →
-    first_of (answer_effect config (waits_of ack channel g.half pending due) now flag o).rows ≡ first_of (broken (gathered_rows g c request))
+    first_row (answer_effect config (waits_of ack channel g.half pending due) now flag o).rows ≡ first_row (broken (gathered_rows g c request))
 answer_rows_are config ack channel g pending due now flag o c kind request b is h same w =
     answer_decides config ack channel g.half pending due now flag o c.chunk is.chunk h
     ∙ ap (option_map Broken) (gathered_are config ack channel g c flag request (waiting_under c.chunk.request_id pending) b is.flag_is w same)
@@ -117,17 +87,10 @@ pub record Ends (id : ℕ) (pending pending' : List (ℕ × Request)) (came : Op
   pub left : pending' ≡ cond (is_some came) (without id pending) pending
   pub given : has ≡ had ++ answer_with id (waiting_under id pending) came
 
-no_answer : (id : ℕ) (wanted : Option Request) → answer_with id wanted None ≡ []
-no_answer id None = refl
-no_answer id (Some request) = refl
-
-pub goes_on : (id : ℕ) (pending : List (ℕ × Request)) (answers : List Answer) → Ends id pending pending None answers answers
-goes_on id pending answers = record { left = refl; given = sym (append-nil answers) ∙ ap (λ xs. answers ++ xs) (sym (no_answer id (waiting_under id pending))) }
-
 pub answer_acts : (config : ClientConfig) (ack : Option Ack) (channel new : Shown) (g g' : Gathered) (pending pending' : List (ℕ × Request)) (due : Option ℕ) (next now flag : ℕ) (o : Option Chunk) (c : FlaggedChunk) (kind : Kind) (request : Request) (came : Option AnswerResult) (bytes : List ℕ) (had has : List Answer) →
     IsHalf config g → IsChunkOf kind flag o c → first_row (answer_heard_rows channel.channel now o) ≡ None → new ≡ record { channel = numbered channel.channel c.chunk.sequence; moment = now } →
     may_have_id g.half c.chunk.request_id ≡ true → waiting_under c.chunk.request_id pending ≡ Some request →
-    first_of (broken (gathered_rows g c request)) ≡ None → Gathers g g' c came → Ends c.chunk.request_id pending pending' came had has →
+    first_row (broken (gathered_rows g c request)) ≡ None → Gathers g g' c came → Ends c.chunk.request_id pending pending' came had has →
     Acts (answer_effect config (waits_of ack channel g.half pending due) now flag o) (client_running_of config ack channel g.half pending due next) (client_running_of config ack new g'.half pending' due next) (given bytes had) (given bytes has)
 answer_acts config ack channel new g g' pending pending' due next now flag o c kind request came bytes had has b is heard h same w rows gathers ends =
     let id = c.chunk.request_id in
@@ -135,7 +98,7 @@ answer_acts config ack channel new g g' pending pending' due next now flag o c k
     let ended : is_some came ≡ ends_message flag = ap is_some gathers.result ∙ ends_with g c request (broken_none (gathered_rows g c request) rows) ∙ ap ends_message is.flag_is in
     subst (λ o. Acts (answer_effect config (waits_of ack channel g.half pending due) now flag o) (client_running_of config ack channel g.half pending due next) (client_running_of config ack new g'.half pending' due next) (given bytes had) (given bytes has)) (sym is.chunk)
     (record {
-      fine = ap (λ o. first_of (answer_effect config (waits_of ack channel g.half pending due) now flag o).rows) (sym is.chunk) ∙ answer_rows_are config ack channel g pending due now flag o c kind request b is heard same w ∙ rows;
+      fine = ap (λ o. first_row (answer_effect config (waits_of ack channel g.half pending due) now flag o).rows) (sym is.chunk) ∙ answer_rows_are config ack channel g pending due now flag o c kind request b is heard same w ∙ rows;
       config = refl;
       waits = (λ i. waits_of ack (h i) (gathers.half i) (ends.left i) due)
           ∙ (λ i. record (waits_of ack channel g.half pending due) {

@@ -3,13 +3,13 @@ use Rattle.std.proofs.Common.{◌≡◌, ℕ, ◌≤◌, Bool, true, false, cond
 use Rattle.std.specs.Prelude.{◌==◌, ◌||◌, ◌&&◌, nat_lt, option_map}
 use Rattle.std.specs.List.{filter, find}
 use Rattle.std.proofs.lemmas.List.Elements.{filter-append}
-use Rattle.std.proofs.lemmas.Bool.{eq-eqb, ne_eqb, lt-ltb}
+use Rattle.std.proofs.lemmas.Bool.{eq-eqb, ne_eqb, lt-ltb, or_parts}
+use Rattle.ua_frame.specs.Rows.{first_row, or_else}
 use Rattle.ua_frame.specs.Layout.{Frame, kind_of, flag_of}
 use Rattle.ua_frame.specs.HeaderRows.{header_fault}
 use Rattle.ua_frame.specs.declared.kind.Kind.{Kind}
 use Rattle.ua_frame.specs.declared.kind.Kind.TheVariants as kinds
 use Rattle.ua_chunk.specs.Layout.{abort_of}
-use Rattle.ua_chunk.specs.Half.{ends_message}
 use Rattle.ua_channel.specs.Token.{is_known}
 use Rattle.ua_service.specs.declared.request.Request.{Request}
 use Rattle.ua_conn.specs.Past.{Past, carried, is_message, is_open, open_in}
@@ -17,13 +17,13 @@ use Rattle.ua_conn.specs.client.Asker.{Asker}
 use Rattle.ua_conn.specs.client.Commands.{Act, Ask, Renew, Close, Command, Commands, Asked, OpenAsked, asked_in, asked_by, opens_asked, opens_by, next_id, request_under}
 use Rattle.ua_conn.specs.client.Past.{ClientKnown, client_known}
 use Rattle.ua_conn.specs.client.Pending.{bytes_in, is_among, ends_one, ended_ids, opening_id, opened_ids, pending_in, wanted_at, opening_in, due_at, first_id}
-use Rattle.ua_conn.specs.client.Faults.{first_of, or_fault, greatest_answer, client_rows, client_fault_by, is_id, whole_response}
-use Rattle.ua_conn.specs.client.Reading.{answer_at, answer_with, answers, result_by}
+use Rattle.ua_conn.specs.client.Faults.{greatest_answer, client_rows, client_fault_by, is_id, whole_response}
+use Rattle.ua_conn.specs.client.Reading.{answer_at, answer_with, answers}
 use Rattle.ua_conn.specs.BothEnds.{AllAfter}
-use Rattle.ua_conn.specs.declared.client.answer.AnswerResult.TheVariants.{Response as Responds, Aborted}
+use Rattle.ua_conn.specs.declared.client.answer.AnswerResult.TheVariants.{Response, Aborted}
 use Rattle.ua_conn.specs.declared.client.fault.ClientFault.{ClientFault}
 use Rattle.ua_conn.specs.declared.client.fault.ClientFault.TheVariants.{Broken}
-use Rattle.ua_conn.proofs.ClientEnd.FreshLemmas.{AreBelow, asked_below, below_filter, message_wanted, open_due}
+use Rattle.ua_conn.proofs.ClientEnd.FreshLemmas.{find_new, asked_below, below_filter, message_wanted, open_due}
 use Rattle.ua_conn.proofs.BothEnds.OnTheWayLemmas.{Accepts}
 use Rattle.ua_conn.proofs.BothEnds.ClientWalkLemmas.{Wanted, ended_more}
 use Rattle.ua_conn.proofs.BothEnds.OpeningWalkLemmas.{Due}
@@ -85,7 +85,7 @@ fault_stays a k due due' wanted wanted' usable f more_due more_wanted h = by (ki
     head = option_map Broken (header_fault (greatest_answer k.ack) f.bytes)
 
     table : Option ℕ → Option Request → Option Kind → Option ClientFault
-    table d w kind = or_fault head (first_of (client_rows a k d w usable f (flag_of f.bytes) kind))
+    table d w kind = or_else head (first_row (client_rows a k d w usable f (flag_of f.bytes) kind))
 
     here : (kind : Option Kind) → kind_of f.bytes ≡ kind → table due wanted kind ≡ None
     here kind e = ap (table due wanted) (sym e) ∙ h
@@ -121,6 +121,21 @@ all_accept a c cmds past (f ∷ fs) h = (accepts_more a c cmds past f h.0, all_a
 
 -- ---- what was answered stays so
 
+no_result : (id : ℕ) (o : Option Request) → answer_with id o None ≡ []
+no_result id None = refl
+no_result id (Some r) = refl
+
+pub answer_quiet : (k : ClientKnown) (wanted : Option Request) (f : Frame) → ends_one f ≡ false → answer_at k wanted f ≡ []
+unfolding answer_at
+answer_quiet k wanted f e = by (is_message (kind_of f.bytes)) (flag_of f.bytes == 70) (flag_of f.bytes == 65) e
+  where
+    by : (m b c : Bool) → (m && (b || c)) ≡ false →
+        cond m (answer_with (carried f).request_id wanted (cond b (option_map Response (whole_response k (carried f))) (cond c (option_map Aborted (abort_of (carried f).body)) None))) [] ≡ []
+    by false b c h = refl
+    by true true c h = absurd (cc h)
+    by true false true h = absurd (cc h)
+    by true false false h = no_result (carried f).request_id wanted
+
 under_front : (id : ℕ) (xs ys : List Asked) → request_under id ys ≡ None → request_under id (xs ++ ys) ≡ request_under id xs
 under_front id [] ys e = e
 under_front id (x ∷ xs) ys e = by (x.id == id) (under_front id xs ys e)
@@ -152,69 +167,31 @@ wanted_same c cmds past end id other =
     ∙ under_front id (filter (λ a. nat_lt a.seen end) (pending_in cmds past)) (filter (λ a. nat_lt a.seen end) (filter (λ a. not (is_among (ended_ids past) a.id)) (asked_by (next_id cmds) c.seen c.act)))
     (none_other (next_id cmds) id c.seen c.act (λ a. nat_lt a.seen end) (λ a. not (is_among (ended_ids past) a.id)) other)
 
-neither : (b c : Bool) → (b || c) ≡ false → (b ≡ false) × (c ≡ false)
-neither true c h = absurd (cc h)
-neither false c h = (refl, h)
-
 not_same : (m n : ℕ) → (m == n) ≡ false → (n == m) ≡ false
 not_same m n e = ne_eqb n m (λ h. (let k : true ≡ false = sym (eq-eqb m n (sym h)) ∙ e in cc k))
 
 -- An id that no whole message has yet has no answer, so a command with that id changes none.
 pub answers_stay : (c : Command) (cmds : Commands) (past : Past) → is_among (ended_ids past) (next_id cmds) ≡ false → answers (c ∷ cmds) past ≡ answers cmds past
-unfolding answer_at
 answers_stay c cmds [] h = refl
-answers_stay c cmds (f ∷ past) h = by (answers_stay c cmds past) (is_message (kind_of f.bytes)) (ends_message (flag_of f.bytes)) refl refl
+answers_stay c cmds (f ∷ past) h = by (answers_stay c cmds past) (ends_one f) refl
   where
-    k : ClientKnown
-    k = client_known past
-
     id : ℕ
     id = (carried f).request_id
 
     end : ℕ
     end = bytes_in (f ∷ past)
 
-    none : (w w' : Option Request) → answer_with id w None ≡ answer_with id w' None
-    none None None = refl
-    none None (Some r) = refl
-    none (Some r) None = refl
-    none (Some r) (Some q) = refl
-
-    -- a flag that ends no message brings no result
-    quiet : (flag : ℕ) → ends_message flag ≡ false → result_by k flag (carried f) ≡ None
-    quiet flag e =
-        let two = neither (flag == 70) (flag == 65) e in
-        λ i. cond (two.0 i) (option_map Responds (whole_response k (carried f))) (cond (two.1 i) (option_map Aborted (abort_of (carried f).body)) None)
-
-    by : (is_among (ended_ids past) (next_id cmds) ≡ false → answers (c ∷ cmds) past ≡ answers cmds past) → (b e : Bool) → is_message (kind_of f.bytes) ≡ b → ends_message (flag_of f.bytes) ≡ e → answers (c ∷ cmds) (f ∷ past) ≡ answers cmds (f ∷ past)
-    by again true true m e =
-        let one : ends_one f ≡ true = λ i. m i && e i in
+    by : (is_among (ended_ids past) (next_id cmds) ≡ false → answers (c ∷ cmds) past ≡ answers cmds past) → (b : Bool) → ends_one f ≡ b → answers (c ∷ cmds) (f ∷ past) ≡ answers cmds (f ∷ past)
+    by again true one =
         let ended : is_among (ended_ids (f ∷ past)) (next_id cmds) ≡ is_among (id ∷ ended_ids past) (next_id cmds) = ap (λ l. is_among l (next_id cmds)) (ended_more f past true one) in
-        let both = neither (id == next_id cmds) (is_among (ended_ids past) (next_id cmds)) (sym ended ∙ h) in
-        λ i. again both.1 i ++ answer_at k (wanted_same c cmds past end id (not_same id (next_id cmds) both.0) i) f
-    by again true false m e =
-        let one : ends_one f ≡ false = λ i. m i && e i in
+        let both = or_parts (id == next_id cmds) (is_among (ended_ids past) (next_id cmds)) (sym ended ∙ h) in
+        λ i. again both.1 i ++ answer_at (client_known past) (wanted_same c cmds past end id (not_same id (next_id cmds) both.0) i) f
+    by again false one =
         let before : is_among (ended_ids past) (next_id cmds) ≡ false = sym (ap (λ l. is_among l (next_id cmds)) (ended_more f past false one)) ∙ h in
-        let nothing : answer_at k (wanted_at (c ∷ cmds) past end id) f ≡ answer_at k (wanted_at cmds past end id) f =
-        (λ i. cond (is_message (kind_of f.bytes)) (answer_with id (wanted_at (c ∷ cmds) past end id) (quiet (flag_of f.bytes) e i)) [])
-        ∙ (λ i. cond (is_message (kind_of f.bytes)) (none (wanted_at (c ∷ cmds) past end id) (wanted_at cmds past end id) i) [])
-        ∙ (λ i. cond (is_message (kind_of f.bytes)) (answer_with id (wanted_at cmds past end id) (sym (quiet (flag_of f.bytes) e) i)) []) in
-        λ i. again before i ++ nothing i
-    by again false e m n =
-        let one : ends_one f ≡ false = λ i. m i && ends_message (flag_of f.bytes) in
-        let before : is_among (ended_ids past) (next_id cmds) ≡ false = sym (ap (λ l. is_among l (next_id cmds)) (ended_more f past false one)) ∙ h in
-        let nothing : answer_at k (wanted_at (c ∷ cmds) past end id) f ≡ answer_at k (wanted_at cmds past end id) f =
-        (λ i. cond (m i) (answer_with id (wanted_at (c ∷ cmds) past end id) (result_by k (flag_of f.bytes) (carried f))) [])
-        ∙ (λ i. cond (sym m i) (answer_with id (wanted_at cmds past end id) (result_by k (flag_of f.bytes) (carried f))) []) in
+        let nothing = answer_quiet (client_known past) (wanted_at (c ∷ cmds) past end id) f one ∙ sym (answer_quiet (client_known past) (wanted_at cmds past end id) f one) in
         λ i. again before i ++ nothing i
 
 -- ---- what is new
-
-under_new : (id : ℕ) (xs ys : List Asked) → AreBelow id xs → request_under id (xs ++ ys) ≡ request_under id ys
-under_new id [] ys h = refl
-under_new id (x ∷ xs) ys h =
-    let other : (x.id == id) ≡ false = ne_eqb x.id id (λ e. omega (arith, e, h.0)) in
-    ap (λ b. option_map (λ (a : Asked). a.request) (cond b (Some x) (find (λ a. a.id == id) (xs ++ ys)))) other ∙ under_new id xs ys h.1
 
 -- A request is wanted from the place on at which it was asked.
 pub new_wanted : (cmds : Commands) (request : Request) (part now seen place : ℕ) (ends : List ℕ) → is_among ends (next_id cmds) ≡ false → seen ≤ place
@@ -226,7 +203,7 @@ new_wanted cmds request part now seen place ends none le past end same behind =
     let early : nat_lt seen end ≡ true = lt-ltb seen end (omega (arith, le, behind)) in
     let open_still : is_among (ended_ids past) id ≡ false = ap (λ l. is_among l id) same ∙ none in
     ap (request_under id) (asked_joined c cmds past end)
-    ∙ under_new id (filter (λ a. nat_lt a.seen end) (pending_in cmds past)) (filter (λ a. nat_lt a.seen end) (filter (λ a. not (is_among (ended_ids past) a.id)) (x ∷ [])))
+    ∙ find_new id (filter (λ a. nat_lt a.seen end) (pending_in cmds past)) (filter (λ a. nat_lt a.seen end) (filter (λ a. not (is_among (ended_ids past) a.id)) (x ∷ [])))
     (below_filter id (λ a. nat_lt a.seen end) (pending_in cmds past) (below_filter id (λ a. not (is_among (ended_ids past) a.id)) (asked_in cmds) (asked_below cmds)))
     ∙ ap (λ b. request_under id (filter (λ (a : Asked). nat_lt a.seen end) (cond (not b) (x ∷ []) []))) open_still
     ∙ ap (λ b. request_under id (cond b (x ∷ []) [])) early

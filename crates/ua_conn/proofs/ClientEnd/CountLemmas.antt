@@ -1,28 +1,25 @@
 -- How many open requests were asked, how many are pending and how many tokens came: tokens are no more than open requests, which are fewer than ids.
-use Rattle.std.proofs.Common.{◌≡◌, ℕ, ◌+◌, ◌^◌, ◌<◌, ◌≤◌, Bool, true, false, cond, List, [], ◌∷◌, ◌++◌, map, length, Some, None, refl, sym, ap, ◌∙◌, arith}
+use Rattle.std.proofs.Common.{◌≡◌, ℕ, ◌+◌, ◌<◌, ◌≤◌, Bool, true, false, cond, List, [], ◌∷◌, length, None, refl, sym, ap, ◌∙◌, arith}
 use Rattle.std.specs.Prelude.{◌==◌, nat_lt, not, is_some}
 use Rattle.std.specs.List.{filter}
 use Rattle.std.proofs.lemmas.List.{length-append}
 use Rattle.std.proofs.lemmas.Bool.{or_parts, eq-eqb, eqb-true, ltb-false}
 use Rattle.ua_frame.specs.Streams.{TimedByte, plain, rest_of}
 use Rattle.ua_frame.specs.Layout.{Frame, frames_of, kind_of}
-use Rattle.ua_chunk.specs.Cut.{Part, fill}
-use Rattle.ua_channel.specs.Token.{newest_id}
-use Rattle.ua_service.specs.Requests.{canon_request}
 use Rattle.ua_conn.specs.Past.{Past, is_open, carried, open_in}
 use Rattle.ua_conn.specs.client.Asker.{Asker}
-use Rattle.ua_conn.specs.client.Commands.{Act, Ask, Renew, Close, Commands, Asked, OpenAsked, opens_asked, opens_by, next_id}
-use Rattle.ua_conn.specs.client.Past.{ClientKnown, client_known, granted_in, granted_by, response_in, acknowledge_frame_in}
-use Rattle.ua_conn.specs.client.Pending.{bytes_in, is_among, opening_id, opened_ids, wanted_at, pending_in, opening_in, due_at, first_id, come_by}
+use Rattle.ua_conn.specs.client.Commands.{Act, Ask, Renew, Close, Commands, OpenAsked, opens_asked, opens_by, next_id}
+use Rattle.ua_conn.specs.client.Past.{client_known, granted_in, granted_by, response_in}
+use Rattle.ua_conn.specs.client.Pending.{bytes_in, is_among, opening_id, opened_ids, wanted_at, opening_in, due_at, first_id}
 use Rattle.ua_conn.specs.client.Faults.{is_id, token_usable}
 use Rattle.ua_conn.specs.client.Reading.{client_fault_at, client_reading_of}
-use Rattle.ua_conn.specs.client.Sending.{Sent, Greeting, Opening, Asking, Closing, opens_by as first_opening, act_says, commands_say, sent_by}
-use Rattle.ua_conn.specs.client.Asking.{InFlight, standing, asking_rows, renewing_rows, closing_rows, ask_fault}
+use Rattle.ua_conn.specs.client.Asking.{standing, asking_rows, renewing_rows, closing_rows, ask_fault}
 use Rattle.ua_conn.specs.declared.client.ask_fault.AskFault.TheVariants.{Ended, NotOpen}
-use Rattle.ua_conn.proofs.ClientEnd.FreshLemmas.{all_no, open_due}
+use Rattle.ua_conn.proofs.ClientEnd.ReadingLemmas.{along_reading}
+use Rattle.ua_conn.proofs.TableLemmas.{all_no}
+use Rattle.ua_conn.proofs.ClientEnd.FreshLemmas.{open_due}
 use Rattle.ua_conn.proofs.ClientEnd.RunLemmas.{AtMostOne, opening_step, shorter}
-use Rattle.ua_conn.proofs.ClientEnd.GainLemmas.{none_due}
-use Rattle.ua_conn.proofs.ClientEnd.IdLemmas.{AreApart, ids_opened, opens_apart, opens_apart_part, along_reading}
+use Rattle.ua_conn.proofs.ClientEnd.IdLemmas.{AreApart, ids_opened, opens_apart, opens_apart_part}
 
 -- ---- one open response answers one open request
 
@@ -103,9 +100,6 @@ opens_most cmds (f ∷ past) = by (is_open (kind_of f.bytes)) refl (opens_most c
 pub window : (cmds : Commands) (past : Past) → AtMostOne cmds past → length (opens_asked cmds) ≤ length (granted_in past) + 1
 window cmds past h = omega (arith, h.one, opens_most cmds past)
 
-pub window_answered : (cmds : Commands) (past : Past) → opening_in cmds past ≡ [] → length (opens_asked cmds) ≤ length (granted_in past)
-window_answered cmds past e = omega (arith, ap length e, opens_most cmds past)
-
 -- as many at most as were asked, with those that are pending
 pub record AreCounted (cmds : Commands) (past : Past) : Type 0 where
   pub few : length (granted_in past) + length (opening_in cmds past) ≤ length (opens_asked cmds)
@@ -142,96 +136,22 @@ opens_few (c ∷ cmds) = omega (arith, opens_few cmds, opens_one (next_id cmds) 
 pub tokens_left : (cmds : Commands) → next_id cmds ≤ 4294967295 → length (opens_asked cmds) < 4294967295
 tokens_left cmds h = omega (arith, h, opens_few cmds)
 
-pub tokens_fit : (cmds : Commands) → length cmds + 2 ≤ 2 ^ 32 → length (opens_asked cmds) < 2 ^ 32
-tokens_fit cmds h = omega (arith, h, opens_few cmds)
-
--- how many open requests are sent
-abbrev pub opens_one_more : ℕ → Sent → ℕ
-opens_one_more n (Opening channel id body) = n + 1
-opens_one_more n sent = n
-
-abbrev pub openings : List Sent → ℕ
-openings [] = 0
-openings (x ∷ xs) = opens_one_more (openings xs) x
-
-more_is : (n m : ℕ) (x : Sent) → opens_one_more (n + m) x ≡ opens_one_more n x + m
-more_is n m (Greeting hello) = refl
-more_is n m (Opening channel id body) = omega arith
-more_is n m (Asking channel token part) = refl
-more_is n m (Closing channel token id body) = refl
-
-pub openings_append : (xs ys : List Sent) → openings (xs ++ ys) ≡ openings xs + openings ys
-openings_append [] ys = omega arith
-openings_append (x ∷ xs) ys = ap (λ n. opens_one_more n x) (openings_append xs ys) ∙ more_is (openings xs) (openings ys) x
-
-parts_open_none : (channel token : ℕ) (parts : List Part) → openings (map (Asking channel token) parts) ≡ 0
-parts_open_none channel token [] = refl
-parts_open_none channel token (p ∷ parts) = parts_open_none channel token parts
-
-act_opens : (a : Asker) (id now seen : ℕ) (k : ClientKnown) (act : Act) → openings (act_says a id now k act) ≡ length (opens_by id seen act)
-act_opens a id now seen k (Ask request part) = parts_open_none k.channel (newest_id k.tokens) (fill id (canon_request request) part)
-act_opens a id now seen k Renew = refl
-act_opens a id now seen k Close = refl
-
-commands_open : (a : Asker) (cmds : Commands) (past : Past) → openings (commands_say a cmds past) + 1 ≡ length (opens_asked cmds)
-commands_open a [] past = refl
-commands_open a (c ∷ cmds) past =
-    let says = act_says a (next_id cmds) c.moment (client_known (come_by c.seen past)) c.act in
-    omega (
-      arith,
-      commands_open a cmds past,
-      openings_append (commands_say a cmds past) says,
-      act_opens a (next_id cmds) c.moment c.seen (client_known (come_by c.seen past)) c.act,
-      length-append (opens_asked cmds) (opens_by (next_id cmds) c.seen c.act),
-    )
-
--- as many as were asked, once the Acknowledge came,
-pub openings_said : (a : Asker) (cmds : Commands) (past : Past) (f : Frame) → acknowledge_frame_in past ≡ Some f → openings (sent_by a cmds past) ≡ length (opens_asked cmds)
-openings_said a cmds past f e =
-    let one : openings (first_opening a (acknowledge_frame_in past)) ≡ 1 = ap (λ o. openings (first_opening a o)) e in
-    omega (arith, one, commands_open a cmds past, openings_append (first_opening a (acknowledge_frame_in past)) (commands_say a cmds past))
-
--- and before it one less
-pub openings_waiting : (a : Asker) (cmds : Commands) (past : Past) → acknowledge_frame_in past ≡ None → openings (sent_by a cmds past) + 1 ≡ length (opens_asked cmds)
-openings_waiting a cmds past e =
-    let none : openings (first_opening a (acknowledge_frame_in past)) ≡ 0 = ap (λ o. openings (first_opening a o)) e in
-    omega (arith, none, commands_open a cmds past, openings_append (first_opening a (acknowledge_frame_in past)) (commands_say a cmds past))
-
 -- ---- a command that is accepted
 
 -- has an id that fits,
-pub ids_left : (flight : InFlight) (a : Asker) (cmds : Commands) (v : List TimedByte) (act : Act) → ask_fault flight a cmds v act ≡ None → next_id cmds ≤ 4294967295
-ids_left flight a cmds v act h = by act h
+pub ids_left : (a : Asker) (cmds : Commands) (v : List TimedByte) (act : Act) → ask_fault a cmds v act ≡ None → next_id cmds ≤ 4294967295
+ids_left a cmds v act h = by act h
   where
     r : Past
     r = (client_reading_of a cmds v).past
 
-    by : (act : Act) → ask_fault flight a cmds v act ≡ None → next_id cmds ≤ 4294967295
+    by : (act : Act) → ask_fault a cmds v act ≡ None → next_id cmds ≤ 4294967295
     by (Ask request part) k =
-        let no = all_no ((is_some (client_reading_of a cmds v).fault, Ended) ∷ (not (standing cmds r).channel_open, NotOpen) ∷ asking_rows flight (standing cmds r) request part) k in
-        ltb-false 4294967295 (next_id cmds) no.1.1.1.1.1.0
-    by Renew k =
-        let no = all_no ((is_some (client_reading_of a cmds v).fault, Ended) ∷ (not (standing cmds r).channel_open, NotOpen) ∷ renewing_rows flight (standing cmds r)) k in
+        let no = all_no ((is_some (client_reading_of a cmds v).fault, Ended) ∷ (not (standing cmds r).channel_open, NotOpen) ∷ asking_rows (standing cmds r) request part) k in
         ltb-false 4294967295 (next_id cmds) no.1.1.1.1.0
+    by Renew k =
+        let no = all_no ((is_some (client_reading_of a cmds v).fault, Ended) ∷ (not (standing cmds r).channel_open, NotOpen) ∷ renewing_rows (standing cmds r)) k in
+        ltb-false 4294967295 (next_id cmds) no.1.1.1.0
     by Close k =
         let no = all_no ((is_some (client_reading_of a cmds v).fault, Ended) ∷ (not (standing cmds r).channel_open, NotOpen) ∷ closing_rows (standing cmds r)) k in
         ltb-false 4294967295 (next_id cmds) no.1.1.1.1.0
-
--- a renewal finds no open request pending,
-pub renew_alone : (flight : InFlight) (a : Asker) (cmds : Commands) (v : List TimedByte) → ask_fault flight a cmds v Renew ≡ None → opening_in cmds (client_reading_of a cmds v).past ≡ []
-renew_alone flight a cmds v h =
-    let r = (client_reading_of a cmds v).past in
-    let no = all_no ((is_some (client_reading_of a cmds v).fault, Ended) ∷ (not (standing cmds r).channel_open, NotOpen) ∷ renewing_rows flight (standing cmds r)) h in
-    none_due (opening_in cmds r) no.1.1.0
-
--- and a close finds nothing pending.
-pub close_alone : (flight : InFlight) (a : Asker) (cmds : Commands) (v : List TimedByte) → ask_fault flight a cmds v Close ≡ None →
-    (let past = (client_reading_of a cmds v).past in (opening_in cmds past ≡ []) × (pending_in cmds past ≡ []))
-close_alone flight a cmds v h =
-    let r = (client_reading_of a cmds v).past in
-    let no = all_no ((is_some (client_reading_of a cmds v).fault, Ended) ∷ (not (standing cmds r).channel_open, NotOpen) ∷ closing_rows (standing cmds r)) h in
-    (none_due (opening_in cmds r) no.1.1.0, none_left (pending_in cmds r) no.1.1.1.0)
-  where
-    none_left : (xs : List Asked) → nat_lt 0 (length xs) ≡ false → xs ≡ []
-    none_left [] e = refl
-    none_left (x ∷ xs) e = absurd (omega (arith, ltb-false 0 (length (x ∷ xs)) e))

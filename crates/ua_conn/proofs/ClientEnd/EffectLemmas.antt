@@ -1,7 +1,7 @@
 -- What a frame of each type does to a client, put together from the steps that take it.
 use Rattle.std.proofs.Common.{◌≡◌, ℕ, Bool, true, false, cond, ◌==◌, List, [], ◌∷◌, ◌++◌, Option, Some, None, refl, sym, ap, subst, ◌∙◌}
 use Rattle.std.specs.Prelude.{not, is_some, option_map}
-use Rattle.std.proofs.lemmas.Bool.{eq-eqb, eqb-true}
+use Rattle.std.proofs.lemmas.Bool.{eq-eqb, eqb-true, not-false}
 use Rattle.std.proofs.lemmas.List.{append-nil}
 use Rattle.ua_frame.specs.Rows.{Row, first_row}
 use Rattle.ua_frame.specs.declared.acknowledge.Ack.{Ack}
@@ -16,7 +16,7 @@ use Rattle.ua_service.specs.declared.channel.OpenResponse.{OpenResponse}
 use Rattle.ua_service.specs.declared.request.Request.{Request}
 use Rattle.ua_service.specs.ChannelMessages.{open_response_of}
 use Rattle.ua_conn.specs.client.Past.{granted_by}
-use Rattle.ua_conn.specs.client.Faults.{FaultRow, first_of, broken, is_id, acknowledge_rows, response_rows, opened_rows}
+use Rattle.ua_conn.specs.client.Faults.{broken, is_id, acknowledge_rows, response_rows, opened_rows}
 use Rattle.ua_conn.specs.client.Questions.{open_asked_body}
 use Rattle.ua_conn.specs.client.Sending.{sent_bytes}
 use Rattle.ua_conn.specs.client.Machine.{Awaiting, unless_id}
@@ -26,52 +26,26 @@ use Rattle.ua_conn.specs.client.Ranges.{client_known_of, client_running_of}
 use Rattle.ua_conn.specs.client.Effects.{asker_with, acknowledge_effect, opening_effect, Given, Acts}
 use Rattle.ua_conn.specs.declared.client.config.ClientConfig.{ClientConfig}
 use Rattle.ua_conn.specs.declared.client.answer.Answer.{Answer}
-use Rattle.ua_conn.specs.declared.client.fault.ClientFault.{ClientFault}
 use Rattle.ua_conn.specs.declared.client.fault.ClientFault.TheVariants.{Broken}
-use Rattle.ua_conn.proofs.ServerEnd.TableLemmas.{join_none}
+use Rattle.ua_conn.proofs.TableLemmas.{join_none, first_passes}
 
 -- ---- tables
 
 -- rows of statuses, as rows of faults
-pub broken_first : (rows : List Row) → first_of (broken rows) ≡ option_map Broken (first_row rows)
+pub broken_first : (rows : List Row) → first_row (broken rows) ≡ option_map Broken (first_row rows)
 broken_first [] = refl
 broken_first (row ∷ rows) = by row.0 (broken_first rows)
   where
-    by : (b : Bool) → first_of (broken rows) ≡ option_map Broken (first_row rows) → cond b (Some (Broken row.1)) (first_of (broken rows)) ≡ option_map Broken (cond b (Some row.1) (first_row rows))
+    by : (b : Bool) → first_row (broken rows) ≡ option_map Broken (first_row rows) → cond b (Some (Broken row.1)) (first_row (broken rows)) ≡ option_map Broken (cond b (Some row.1) (first_row rows))
     by true h = refl
     by false h = h
 
-pub broken_status : (rows : List Row) (status : ℕ) → first_row rows ≡ Some status → first_of (broken rows) ≡ Some (Broken status)
-broken_status rows status h = broken_first rows ∙ ap (option_map Broken) h
-
-unbroken : (o : Option ℕ) → option_map Broken o ≡ None → o ≡ None
+pub unbroken : (o : Option ℕ) → option_map Broken o ≡ None → o ≡ None
 unbroken None h = refl
 unbroken (Some status) h = absurd (cc)
 
-pub broken_none : (rows : List Row) → first_of (broken rows) ≡ None → first_row rows ≡ None
+pub broken_none : (rows : List Row) → first_row (broken rows) ≡ None → first_row rows ≡ None
 broken_none rows h = unbroken (first_row rows) (sym (broken_first rows) ∙ h)
-
--- behind rows of which none holds, and before others
-pub behind_none : (rows more : List FaultRow) → first_of rows ≡ None → first_of (rows ++ more) ≡ first_of more
-behind_none [] more h = refl
-behind_none (row ∷ rows) more h = by row.0 (behind_none rows more) h
-  where
-    by : (b : Bool) → (first_of rows ≡ None → first_of (rows ++ more) ≡ first_of more) → cond b (Some row.1) (first_of rows) ≡ None → cond b (Some row.1) (first_of (rows ++ more)) ≡ first_of more
-    by true g h = absurd (cc h)
-    by false g h = g h
-
-pub before_some : (rows more : List FaultRow) (fault : ClientFault) → first_of rows ≡ Some fault → first_of (rows ++ more) ≡ Some fault
-before_some [] more fault h = absurd (cc)
-before_some (row ∷ rows) more fault h = by row.0 (before_some rows more fault) h
-  where
-    by : (b : Bool) → (first_of rows ≡ Some fault → first_of (rows ++ more) ≡ Some fault) → cond b (Some row.1) (first_of rows) ≡ Some fault → cond b (Some row.1) (first_of (rows ++ more)) ≡ Some fault
-    by true g h = h
-    by false g h = g h
-
--- of a table that lets something pass, the first row and the others do
-pub first_passes : (b : Bool) (status : ℕ) (o : Option ℕ) → cond b (Some status) o ≡ None → (b ≡ false) × (o ≡ None)
-first_passes true status o h = absurd (cc)
-first_passes false status o h = (refl, h)
 
 abbrev pub given : List ℕ → List Answer → Given
 given bytes answers = record { bytes = bytes; answers = answers }
@@ -84,28 +58,17 @@ waits_of ack channel half pending due = record { known = client_known_of ack cha
 abbrev pub admitting_rows : Channel → Option Half → Option ℕ → OpenChunk → List Row
 admitting_rows c half due opening = admit_response_rows c opening ++ (is_some half, 0x807E0000) ∷ (not (is_id due opening.request_id), 0x80090000) ∷ []
 
--- refused by its channel, inside a message, or as the answer to nothing that was asked
-pub opening_refused : (ack : Option Ack) (channel : Shown) (half : Option Half) (pending : List (ℕ × Request)) (due : Option ℕ) (now : ℕ) (o : Option OpenChunk) (opening : OpenChunk) (status : ℕ) →
-    o ≡ Some opening → first_row (admitting_rows channel.channel half due opening) ≡ Some status → first_of (opening_effect (waits_of ack channel half pending due) now o).rows ≡ Some (Broken status)
-opening_refused ack channel half pending due now o opening status e h =
-    ap (λ o. first_of (opened_rows (client_known_of ack channel half) due o)) e
-    ∙ before_some (broken (admitting_rows channel.channel half due opening)) (response_rows opening.channel (open_response_of opening.body)) (Broken status) (broken_status (admitting_rows channel.channel half due opening) status h)
-
 -- what the rows of its response say counts for the whole table
 pub response_decides : (ack : Option Ack) (channel : Shown) (half : Option Half) (pending : List (ℕ × Request)) (due : Option ℕ) (now : ℕ) (o : Option OpenChunk) (opening : OpenChunk) →
     o ≡ Some opening → first_row (admitting_rows channel.channel half due opening) ≡ None →
-    first_of (opening_effect (waits_of ack channel half pending due) now o).rows ≡ first_of (response_rows opening.channel (open_response_of opening.body))
+    first_row (opening_effect (waits_of ack channel half pending due) now o).rows ≡ first_row (response_rows opening.channel (open_response_of opening.body))
 response_decides ack channel half pending due now o opening e h =
-    ap (λ o. first_of (opened_rows (client_known_of ack channel half) due o)) e
-    ∙ behind_none (broken (admitting_rows channel.channel half due opening)) (response_rows opening.channel (open_response_of opening.body)) (broken_first (admitting_rows channel.channel half due opening) ∙ ap (option_map Broken) h)
+    ap (λ o. first_row (opened_rows (client_known_of ack channel half) due o)) e
+    ∙ join_none (broken (admitting_rows channel.channel half due opening)) (response_rows opening.channel (open_response_of opening.body)) (broken_first (admitting_rows channel.channel half due opening) ∙ ap (option_map Broken) h)
 
 answered_due : (due : Option ℕ) (id : ℕ) → not (is_id due id) ≡ false → unless_id due id ≡ None
 answered_due None id h = absurd (cc)
-answered_due (Some n) id h = ap (λ b. cond b None (Some n)) (eq-eqb id n (sym (eqb-true n id (not_false (n == id) h))))
-  where
-    not_false : (b : Bool) → not b ≡ false → b ≡ true
-    not_false true h = refl
-    not_false false h = absurd (cc)
+answered_due (Some n) id h = ap (λ b. cond b None (Some n)) (eq-eqb id n (sym (eqb-true n id (not-false (n == id) h))))
 
 -- the open request that is pending is answered
 due_then : (c : Channel) (half : Option Half) (due : Option ℕ) (opening : OpenChunk) → first_row (admitting_rows c half due opening) ≡ None → unless_id due opening.request_id ≡ None
@@ -124,7 +87,7 @@ due_then c half due opening h =
 
 pub opening_acts : (config : ClientConfig) (ack : Option Ack) (channel heard new : Shown) (half : Option Half) (pending : List (ℕ × Request)) (due : Option ℕ) (next now : ℕ) (o : Option OpenChunk) (opening : OpenChunk) (response : OpenResponse) (bytes : List ℕ) (answers : List Answer) →
     o ≡ Some opening → first_row (admitting_rows channel.channel half due opening) ≡ None → heard ≡ record { channel = numbered channel.channel opening.sequence; moment = channel.moment } →
-    first_of (response_rows opening.channel (open_response_of opening.body)) ≡ None → open_response_of opening.body ≡ Some response →
+    first_row (response_rows opening.channel (open_response_of opening.body)) ≡ None → open_response_of opening.body ≡ Some response →
     new ≡ record { channel = opened_as opening.channel heard.channel response now; moment = now } →
     Acts (opening_effect (waits_of ack channel half pending due) now o) (client_running_of config ack channel half pending due next) (client_running_of config ack new half pending None next) (given bytes answers) (given bytes answers)
 opening_acts config ack channel heard new half pending due next now o opening response bytes answers e admitted h rows reads n =
@@ -149,14 +112,14 @@ opening_acts config ack channel heard new half pending due next now o opening re
 -- ---- an ACK
 
 pub acknowledge_acts : (config : ClientConfig) (before : Option Ack) (channel : Shown) (half : Option Half) (pending : List (ℕ × Request)) (due : Option ℕ) (next now : ℕ) (o : Option Ack) (ack : Ack) (new : ClientRunning) (out out' : List ℕ) (answers : List Answer) →
-    first_of (broken (acknowledge_rows (asker_with config) o)) ≡ None → o ≡ Some ack → out' ≡ out ++ open_frame 0 next 1 (open_asked_body now 1 0 config.lifetime) →
+    first_row (broken (acknowledge_rows (asker_with config) o)) ≡ None → o ≡ Some ack → out' ≡ out ++ open_frame 0 next 1 (open_asked_body now 1 0 config.lifetime) →
     new ≡ numbered_to (client_running_of config (Some ack) channel half pending due next) (number_after next 1) →
     Acts (acknowledge_effect config (waits_of before channel half pending due) now o) (client_running_of config before channel half pending due next) new (given out answers) (given out' answers)
 unfolding sent_bytes
 acknowledge_acts config before channel half pending due next now o ack new out out' answers h e w n =
     subst (λ o. Acts (acknowledge_effect config (waits_of before channel half pending due) now o) (client_running_of config before channel half pending due next) new (given out answers) (given out' answers)) (sym e)
     (record {
-      fine = ap (λ o. first_of (broken (acknowledge_rows (asker_with config) o))) (sym e) ∙ h;
+      fine = ap (λ o. first_row (broken (acknowledge_rows (asker_with config) o))) (sym e) ∙ h;
       config = ap (λ (r : ClientRunning). r.config) n;
       waits = ap (λ (r : ClientRunning). r.waits) n;
       number = ap (λ (r : ClientRunning). r.next) n;

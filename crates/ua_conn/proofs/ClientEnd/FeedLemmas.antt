@@ -1,20 +1,21 @@
 -- Frames that come to a client, taken one after another from bytes that came at one moment.
-use Rattle.std.proofs.Common.{◌≡◌, ℕ, ◌+◌, ◌≤◌, List, [], ◌∷◌, ◌++◌, map, take, drop, length, Option, Some, None, Ok, Err, refl, sym, ap, subst, ◌∙◌, append_assoc, arith, inl, inr}
+use Rattle.std.proofs.Common.{◌≡◌, ℕ, ◌+◌, ◌≤◌, List, [], ◌∷◌, ◌++◌, map, drop, length, Option, Some, None, Ok, Err, refl, sym, ap, subst, ◌∙◌, append_assoc, arith, inl, inr}
 use Rattle.std.specs.Prelude.{option_map}
 use Rattle.std.proofs.lemmas.List.{append-nil, length-take, length-take-le, length-drop, drop-drop}
+use Rattle.ua_frame.specs.Rows.{first_row, or_else}
 use Rattle.ua_frame.specs.Streams.{at, plain, rest_of}
-use Rattle.ua_frame.specs.Layout.{Frame, frames_of, kind_of, flag_of}
+use Rattle.ua_frame.specs.Layout.{frames_of, kind_of, flag_of}
 use Rattle.ua_frame.specs.MomentLaws.{at_once_step, at_once_stop}
 use Rattle.ua_frame.specs.HeaderLaws.{header_fault_take}
 use Rattle.ua_conn.specs.Past.{carried}
 use Rattle.ua_conn.specs.server.Feeding.{BeginsFrame, BeginsNoFrame, first_frame}
 use Rattle.ua_conn.specs.client.Asker.{Asker}
-use Rattle.ua_conn.specs.client.Faults.{first_of, or_fault, greatest_answer, client_rows, client_fault_by, client_fault_in_rest, token_usable}
+use Rattle.ua_conn.specs.client.Faults.{greatest_answer, client_rows, client_fault_by, client_fault_in_rest, token_usable}
 use Rattle.ua_conn.specs.client.Sending.{Sent, sent_bytes}
 use Rattle.ua_conn.specs.client.Machine.{Awaiting, ClientRun, waiting_under, awaiting_fault, awaiting_after, frame_says, frame_answers, ahead_of, client_run, client_run_on, number_sent, sent_next, next_sent}
 use Rattle.ua_conn.specs.client.Taking.{ClientRunning}
 use Rattle.ua_conn.specs.client.Effects.{asker_with, Given, Stands}
-use Rattle.ua_conn.specs.client.Hearing.{IsRefused, by_header, by_frame, RefusedAs, Steps, brought, Hears, SaysPart, Breaks, BreaksBy, Hearing}
+use Rattle.ua_conn.specs.client.Hearing.{IsRefused, by_header, by_frame, Steps, brought, Hears, Breaks, BreaksBy, Hearing}
 use Rattle.ua_conn.specs.declared.client.config.ClientConfig.{ClientConfig}
 use Rattle.ua_conn.specs.declared.client.answer.Answer.{Answer}
 use Rattle.ua_conn.specs.declared.client.fault.ClientFault.{ClientFault}
@@ -91,8 +92,8 @@ unfolding client_fault_by client_fault_in_rest
 refused_whole a w bytes n now fault h e =
     let f = first_frame now n bytes in
     let rows = client_rows a w.known w.due (waiting_under (carried f).request_id w.pending) (token_usable w.known f) f (flag_of f.bytes) (kind_of f.bytes) in
-    ap (λ o. or_fault (option_map Broken o) (first_of rows)) (header_fault_take (greatest_answer w.known.ack) n bytes (omega (arith, h.frame.header, length-take-le n bytes h.within)))
-    ∙ ap (λ o. or_fault o (first_of rows)) e
+    ap (λ o. or_else (option_map Broken o) (first_row rows)) (header_fault_take (greatest_answer w.known.ack) n bytes (omega (arith, h.frame.header, length-take-le n bytes h.within)))
+    ∙ ap (λ o. or_else o (first_row rows)) e
 
 run_refuses : (config : ClientConfig) (w : Awaiting) (now : ℕ) (bytes : List ℕ) (fault : ClientFault) → IsRefused config w now bytes fault →
     client_run_on (asker_with config) w now bytes ≡ record { says = []; answers = []; fault = Some fault; after = w }

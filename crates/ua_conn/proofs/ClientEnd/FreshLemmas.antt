@@ -1,7 +1,9 @@
 -- Ids of what was asked: each is below the next one, and so is each that a standing frame answers.
-use Rattle.std.proofs.Common.{subst, eqb-true, ◌≡◌, ℕ, ◌<◌, ◌≤◌, Bool, true, false, cond, List, [], ◌∷◌, ◌++◌, Option, Some, None, refl, sym, ap, ◌∙◌, arith}
-use Rattle.std.specs.Prelude.{◌==◌, ◌||◌, ◌&&◌, not, is_none, option_map}
+use Rattle.std.proofs.Common.{subst, ◌≡◌, ℕ, ◌<◌, ◌≤◌, Bool, true, false, cond, List, [], ◌∷◌, ◌++◌, Option, Some, None, refl, sym, ap, ◌∙◌, arith}
+use Rattle.std.specs.Prelude.{◌==◌, ◌||◌, is_none, option_map}
 use Rattle.std.specs.List.{filter, find}
+use Rattle.std.proofs.lemmas.Bool.{not-false, and_parts, ne_eqb, eqb-true}
+use Rattle.ua_frame.specs.Rows.{first_row}
 use Rattle.ua_frame.specs.HeaderRows.{header_fault}
 use Rattle.ua_frame.specs.Layout.{Frame, kind_of, flag_of}
 use Rattle.ua_frame.specs.declared.kind.Kind.{Kind}
@@ -14,66 +16,28 @@ use Rattle.ua_conn.specs.client.Asker.{Asker}
 use Rattle.ua_conn.specs.client.Commands.{Act, Ask, Renew, Close, Commands, Asked, OpenAsked, asked_in, asked_by, opens_asked, opens_by, next_id, request_under}
 use Rattle.ua_conn.specs.client.Past.{ClientKnown, client_known}
 use Rattle.ua_conn.specs.client.Pending.{bytes_in, is_among, ends_one, opening_id, ended_ids, opened_ids, wanted_at, due_at, first_id}
-use Rattle.ua_conn.specs.client.Faults.{first_of, or_fault, greatest_answer, client_rows, client_fault_by, is_id, opened_rows, token_usable}
-use Rattle.ua_conn.specs.client.Reading.{ClientReading, client_fault_at, client_reading}
-use Rattle.ua_conn.specs.declared.client.fault.ClientFault.{ClientFault}
+use Rattle.ua_conn.specs.client.Faults.{greatest_answer, client_rows, client_fault_by, is_id, opened_rows, token_usable}
+use Rattle.ua_conn.specs.client.Reading.{client_fault_at, client_reading}
 use Rattle.ua_conn.specs.declared.client.fault.ClientFault.TheVariants.{Broken}
+use Rattle.ua_conn.proofs.ClientEnd.ReadingLemmas.{along_reading}
+use Rattle.ua_conn.proofs.KindLemmas.{is_open_tells, is_message_tells}
+use Rattle.ua_conn.proofs.TableLemmas.{AllNo, all_no, or_none}
 
--- ---- no row holds
-
-abbrev pub AllNo : {S : Type 0} → List (Bool × S) → Type 0
-AllNo [] = Unit {0}
-AllNo (row ∷ rows) = (row.0 ≡ false) × AllNo rows
-
-pub all_no : {S : Type 0} (rows : List (Bool × S)) → first_of rows ≡ None → AllNo rows
-all_no [] h = tt
-all_no ((b, x) ∷ rows) h = by b h (all_no rows)
-  where
-    by : (b : Bool) → first_of ((b, x) ∷ rows) ≡ None → (first_of rows ≡ None → AllNo rows) → (b ≡ false) × AllNo rows
-    by true h rest = absurd (cc h)
-    by false h rest = (refl, rest h)
-
-pub or_none : (x y : Option ClientFault) → or_fault x y ≡ None → y ≡ None
-or_none None y h = h
-or_none (Some fault) y h = absurd (cc h)
-
-pub is_open_tells : (kind : Option Kind) → is_open kind ≡ true → kind ≡ Some kinds.Open
-is_open_tells None h = absurd (cc h)
-is_open_tells (Some kinds.Hello) h = absurd (cc h)
-is_open_tells (Some kinds.Acknowledge) h = absurd (cc h)
-is_open_tells (Some kinds.Error) h = absurd (cc h)
-is_open_tells (Some kinds.ReverseHello) h = absurd (cc h)
-is_open_tells (Some kinds.Open) h = refl
-is_open_tells (Some kinds.Message) h = absurd (cc h)
-is_open_tells (Some kinds.Close) h = absurd (cc h)
-
-is_message_tells : (kind : Option Kind) → is_message kind ≡ true → kind ≡ Some kinds.Message
-is_message_tells None h = absurd (cc h)
-is_message_tells (Some kinds.Hello) h = absurd (cc h)
-is_message_tells (Some kinds.Acknowledge) h = absurd (cc h)
-is_message_tells (Some kinds.Error) h = absurd (cc h)
-is_message_tells (Some kinds.ReverseHello) h = absurd (cc h)
-is_message_tells (Some kinds.Open) h = absurd (cc h)
-is_message_tells (Some kinds.Message) h = refl
-is_message_tells (Some kinds.Close) h = absurd (cc h)
+-- ---- rows of a frame that stands
 
 -- the rows of a frame that stands, by its type
 pub rows_of_kind : (a : Asker) (k : ClientKnown) (due : Option ℕ) (wanted : Option Request) (usable : Bool) (f : Frame) (kind : Option Kind) → client_fault_by a k due wanted usable f ≡ None → kind_of f.bytes ≡ kind →
-    first_of (client_rows a k due wanted usable f (flag_of f.bytes) kind) ≡ None
+    first_row (client_rows a k due wanted usable f (flag_of f.bytes) kind) ≡ None
 unfolding client_fault_by
 rows_of_kind a k due wanted usable f kind h e =
-    ap (λ x. first_of (client_rows a k due wanted usable f (flag_of f.bytes) x)) (sym e)
-    ∙ or_none (option_map Broken (header_fault (greatest_answer k.ack) f.bytes)) (first_of (client_rows a k due wanted usable f (flag_of f.bytes) (kind_of f.bytes))) h
+    ap (λ x. first_row (client_rows a k due wanted usable f (flag_of f.bytes) x)) (sym e)
+    ∙ or_none (option_map Broken (header_fault (greatest_answer k.ack) f.bytes)) (first_row (client_rows a k due wanted usable f (flag_of f.bytes) (kind_of f.bytes))) h
 
 -- a MSG that stands is wanted
 pub message_wanted : (a : Asker) (k : ClientKnown) (due : Option ℕ) (wanted : Option Request) (usable : Bool) (f : Frame) → client_fault_by a k due wanted usable f ≡ None → is_message (kind_of f.bytes) ≡ true → is_none wanted ≡ false
 message_wanted a k due wanted usable f h m =
     let no = all_no (client_rows a k due wanted usable f (flag_of f.bytes) (Some kinds.Message)) (rows_of_kind a k due wanted usable f (Some kinds.Message) h (is_message_tells (kind_of f.bytes) m)) in
     no.1.1.1.1.1.1.0
-
-pub not_false : (b : Bool) → not b ≡ false → b ≡ true
-not_false true h = refl
-not_false false h = absurd (cc h)
 
 -- an OPN that stands answers the open request that is due
 pub open_due : (a : Asker) (k : ClientKnown) (due : Option ℕ) (wanted : Option Request) (usable : Bool) (f : Frame) → client_fault_by a k due wanted usable f ≡ None → is_open (kind_of f.bytes) ≡ true → is_id due (opening_id (open_in f)) ≡ true
@@ -86,7 +50,7 @@ open_due a k due wanted usable f h m = by (open_in f) refl
     by None e = let n : AllNo (opened_rows k due None) = subst (λ o. AllNo (opened_rows k due o)) e no in absurd (cc (n.0))
     by (Some opening) e =
         let n : AllNo (opened_rows k due (Some opening)) = subst (λ o. AllNo (opened_rows k due o)) e no in
-        ap (λ o. is_id due (opening_id o)) e ∙ not_false (is_id due opening.request_id) (n.1.1.1.1.0)
+        ap (λ o. is_id due (opening_id o)) e ∙ not-false (is_id due opening.request_id) (n.1.1.1.1.0)
 
 -- ---- ids are below the next
 
@@ -158,16 +122,13 @@ pub record AreFresh (n : ℕ) (past : Past) : Type 0 where
   pub ended : (id : ℕ) → n ≤ id → is_among (ended_ids past) id ≡ false
   pub opened : (id : ℕ) → n ≤ id → is_among (opened_ids past) id ≡ false
 
-both : (b c : Bool) → (b && c) ≡ true → b ≡ true
-both true c h = refl
-both false c h = absurd (cc h)
-
 pub unlike : (m id : ℕ) → m < id → (m == id) ≡ false
-unlike m id lt = by (m == id) refl
-  where
-    by : (b : Bool) → (m == id) ≡ b → b ≡ false
-    by false e = refl
-    by true e = absurd (omega (arith, lt, eqb-true m id e))
+unlike m id lt = ne_eqb m id (λ e. omega (arith, lt, e))
+
+-- an id that none of the first has is found among the others
+pub find_new : (n : ℕ) (xs ys : List Asked) → AreBelow n xs → request_under n (xs ++ ys) ≡ request_under n ys
+find_new n [] ys h = refl
+find_new n (x ∷ xs) ys h = ap (λ b. option_map (λ (a : Asked). a.request) (cond b (Some x) (find (λ a. a.id == n) (xs ++ ys)))) (unlike x.id n h.0) ∙ find_new n xs ys h.1
 
 pub other : (n id m : ℕ) (ids : List ℕ) → m < n → n ≤ id → is_among ids id ≡ false → is_among (m ∷ ids) id ≡ false
 other n id m ids lt le h = ap (λ b. b || is_among ids id) (unlike m id (omega (arith, lt, le))) ∙ h
@@ -187,7 +148,7 @@ fresh_step a cmds past f h fresh = record { ended = λ id le. ends id le (ends_o
     ends : (id : ℕ) → next_id cmds ≤ id → (b : Bool) → ends_one f ≡ b → is_among (ended_ids (f ∷ past)) id ≡ false
     ends id le false e = rw e (fresh.ended id le)
     ends id le true e =
-        let some = message_wanted a (client_known past) due wanted (token_usable (client_known past) f) f h (both (is_message (kind_of f.bytes)) (ends_message (flag_of f.bytes)) e) in
+        let some = message_wanted a (client_known past) due wanted (token_usable (client_known past) f) f h (and_parts (is_message (kind_of f.bytes)) (ends_message (flag_of f.bytes)) e).0 in
         let lt = under_below (next_id cmds) (carried f).request_id _ (below_filter (next_id cmds) _ _ (below_filter (next_id cmds) _ (asked_in cmds) (asked_below cmds))) some in
         rw e (other (next_id cmds) id (carried f).request_id (ended_ids past) lt le (fresh.ended id le))
 
@@ -199,10 +160,4 @@ fresh_step a cmds past f h fresh = record { ended = λ id le. ends id le (ends_o
         rw e (other (next_id cmds) id (opening_id (open_in f)) (opened_ids past) lt le (fresh.opened id le))
 
 pub fresh : (a : Asker) (cmds : Commands) (past : Past) (fs : List Frame) (rest : List ℕ) → AreFresh (next_id cmds) past → AreFresh (next_id cmds) (client_reading a cmds past fs rest).past
-fresh a cmds past [] rest h = h
-fresh a cmds past (f ∷ fs) rest h = by (client_fault_at a cmds past f) refl (fresh a cmds (f ∷ past) fs rest)
-  where
-    by : (o : Option ClientFault) → client_fault_at a cmds past f ≡ o → (AreFresh (next_id cmds) (f ∷ past) → AreFresh (next_id cmds) (client_reading a cmds (f ∷ past) fs rest).past) →
-        (let R : ClientReading = elim o [ Some fault ↦ record { past = past; fault = Some fault } | None ↦ client_reading a cmds (f ∷ past) fs rest ] in AreFresh (next_id cmds) R.past)
-    by (Some fault) e k = h
-    by None e k = k (fresh_step a cmds past f e h)
+fresh a cmds past fs rest h = along_reading (λ before. AreFresh (next_id cmds) before) a cmds (fresh_step a cmds) past fs rest h

@@ -21,16 +21,17 @@ use Rattle.ua_conn.specs.client.Past.{client_known, acknowledge_frame_in}
 use Rattle.ua_conn.specs.client.Pending.{bytes_in, come_by, is_among, ended_ids, opened_ids, opening_in, due_in, first_id}
 use Rattle.ua_conn.specs.client.Reading.{ClientReading, client_fault_at, client_reading, client_reading_of, answer_at, answers}
 use Rattle.ua_conn.specs.client.Sending.{Sent, sent_bytes, has_place, more_sent, sent_after, sent_all, greets, opens, act_says, commands_say, sent_by}
-use Rattle.ua_conn.specs.client.Asking.{InFlight, standing, renewing_rows, ask_fault}
+use Rattle.ua_conn.specs.client.Asking.{standing, renewing_rows, ask_fault}
 use Rattle.ua_conn.specs.client.Held.{Came, Told, Log, latest_of, stream_of, commands_of, fault_in, IsLog, waiting_in, client_held, ClientGains, ClientByRecord}
 use Rattle.ua_conn.specs.client.Feeding.{sent_of}
 use Rattle.ua_conn.specs.client.Machine.{awaiting_of, client_run, client_run_on, number_sent, sent_next, next_sent, more_waiting, due_with, client_gain}
 use Rattle.ua_conn.specs.declared.client.fault.ClientFault.{ClientFault}
 use Rattle.ua_conn.specs.declared.client.ask_fault.AskFault.TheVariants.{Ended, NotOpen}
+use Rattle.ua_conn.proofs.TableLemmas.{all_no}
 use Rattle.ua_conn.proofs.ClientEnd.PlaceLemmas.{AllBehind, bytes_of_frames, frames_within, later_frames}
 use Rattle.ua_conn.proofs.ClientEnd.ReadingLemmas.{stands, reads_more, reads_same, same_wanted}
 use Rattle.ua_conn.proofs.BothEnds.FaithfulLemmas.{AllSeen, IsStarted, untold, acknowledged, seen_later, seen_one, started_later, sent_append, accepted_acked}
-use Rattle.ua_conn.proofs.ClientEnd.FreshLemmas.{all_no, fresh}
+use Rattle.ua_conn.proofs.ClientEnd.FreshLemmas.{fresh}
 use Rattle.ua_conn.proofs.ClientEnd.RecordLemmas.{awaiting}
 use Rattle.ua_conn.proofs.ClientEnd.RunLemmas.{AtMostOne, one_more, IsClientRun, client_run_is}
 
@@ -52,7 +53,7 @@ numbers_are_next : (first n : ℕ) (xs : List Sent) → 1 ≤ first → number_a
 numbers_are_next first n [] h = refl
 numbers_are_next first n (x ∷ xs) h = numbers_are_next first (more_sent n x) xs h ∙ ap (λ k. next_sent k xs) (one_number first n x h)
 
-after_append : (n : ℕ) (xs ys : List Sent) → sent_after n (xs ++ ys) ≡ sent_after (sent_after n xs) ys
+pub after_append : (n : ℕ) (xs ys : List Sent) → sent_after n (xs ++ ys) ≡ sent_after (sent_after n xs) ys
 after_append n [] ys = refl
 after_append n (x ∷ xs) ys = after_append (more_sent n x) xs ys
 
@@ -79,7 +80,7 @@ reading_goes a cmds past (f ∷ fs) gs rest rest' e =
     goes_cases (client_fault_at a cmds past f) past (newest_first fs (f ∷ past)) (client_reading a cmds (f ∷ past) fs rest) (client_reading a cmds (f ∷ past) (fs ++ gs) rest') (client_reading a cmds (newest_first fs (f ∷ past)) gs rest')
     (reading_goes a cmds (f ∷ past) fs gs rest rest') e
 
-come_by_all : (n : ℕ) (past : Past) → bytes_in past ≤ n → come_by n past ≡ past
+pub come_by_all : (n : ℕ) (past : Past) → bytes_in past ≤ n → come_by n past ≡ past
 come_by_all n [] le = refl
 come_by_all n (f ∷ past) le = ap (λ b. cond b (f ∷ past) (come_by n past)) (le-leb (bytes_in (f ∷ past)) n le)
 
@@ -99,9 +100,9 @@ pub none_due : (xs : List OpenAsked) → is_some (first_id xs) ≡ false → xs 
 none_due [] h = refl
 none_due (x ∷ xs) h = absurd (cc h)
 
-pub told_one : (flight : InFlight) (a : Asker) (cmds : Commands) (v : List TimedByte) (c : Command) → ask_fault flight a cmds v c.act ≡ None →
+pub told_one : (a : Asker) (cmds : Commands) (v : List TimedByte) (c : Command) → ask_fault a cmds v c.act ≡ None →
     AtMostOne cmds (client_reading_of a cmds v).past → AtMostOne (c ∷ cmds) (client_reading_of a cmds v).past
-told_one flight a cmds v c h one = by c.act refl
+told_one a cmds v c h one = by c.act refl
   where
     P : Past
     P = (client_reading_of a cmds v).past
@@ -123,20 +124,20 @@ told_one flight a cmds v c h one = by c.act refl
     by (Ask request part) e = none (Ask request part) e refl
     by Close e = none Close e refl
     by Renew e =
-        let accepted : ask_fault flight a cmds v Renew ≡ None = ap (ask_fault flight a cmds v) (sym e) ∙ h in
-        let no = all_no ((is_some (client_reading_of a cmds v).fault, Ended) ∷ (not (standing cmds P).channel_open, NotOpen) ∷ renewing_rows flight (standing cmds P)) accepted in
+        let accepted : ask_fault a cmds v Renew ≡ None = ap (ask_fault a cmds v) (sym e) ∙ h in
+        let no = all_no ((is_some (client_reading_of a cmds v).fault, Ended) ∷ (not (standing cmds P).channel_open, NotOpen) ∷ renewing_rows (standing cmds P)) accepted in
         let was = none_due (opening_in cmds P) (no.1.1.0) in
         let x : OpenAsked = record { id = next_id cmds; seen = c.seen } in
         let s : opening_in (c ∷ cmds) P ≡ filter test (x ∷ []) = joined ∙ ap (λ y. opening_in cmds P ++ filter test (opens_by (next_id cmds) c.seen y)) e ∙ ap (λ l. l ++ filter test (x ∷ [])) was in
         record { one = omega (arith, ap length s, short x (test x)) }
 
-pub along : (flight : InFlight) (a : Asker) (log : Log) → IsLog flight a log → Along a log
+pub along : (a : Asker) (log : Log) → IsLog a log → Along a log
 unfolding AllSeen
-along flight a [] h =
+along a [] h =
     let s = stands a [] [] (frames_of []) (plain (rest_of [])) in
     record { seen = tt; started = untold refl; one = subst (λ (past : Past). AtMostOne [] past) (sym s.1) (one_more [] s.0 [] (record { one = omega arith })) }
-along flight a (Came x ∷ log) h =
-    let i = along flight a log h in
+along a (Came x ∷ log) h =
+    let i = along a log h in
     let v = stream_of log in
     let cmds = commands_of log in
     let t = map (at (max (latest_of log) x.moment)) x.bytes in
@@ -146,17 +147,17 @@ along flight a (Came x ∷ log) h =
       started = started_later a cmds v t i.started;
       one = subst (λ (past : Past). AtMostOne cmds past) (sym r.behind) (one_more cmds r.more (client_reading_of a cmds v).past i.one);
     }
-along flight a (Told now act ∷ log) h =
-    let i = along flight a log h.1 in
+along a (Told now act ∷ log) h =
+    let i = along a log h.1 in
     let v = stream_of log in
     let cmds = commands_of log in
     let c : Command = record { act = act; moment = max (latest_of log) now; seen = length v } in
     let same = reads_same a c cmds v (frames_within v) in
-    let k = accepted_acked flight a cmds v act h.0 in
+    let k = accepted_acked a cmds v act h.0 in
     record {
       seen = seen_one (length v) c cmds (omega arith) i.seen;
       started = acknowledged k.0 (ap (λ (R : ClientReading). acknowledge_frame_in R.past) same ∙ k.1);
-      one = subst (λ (R : ClientReading). AtMostOne (c ∷ cmds) R.past) (sym same) (told_one flight a cmds v c h.0 i.one);
+      one = subst (λ (R : ClientReading). AtMostOne (c ∷ cmds) R.past) (sym same) (told_one a cmds v c h.0 i.one);
     }
 
 -- ---- bytes come
@@ -177,9 +178,9 @@ record ReadsPiece (a : Asker) (log : Log) (x : Piece) (R : ClientReading) : Type
   run : IsClientRun a (commands_of log) (past_of a log) (came_frames log x) R (client_run a (awaiting (commands_of log) (past_of a log)) (came_frames log x) (came_rest log x))
   rest : plain (rest_of (stream_of (Came x ∷ log))) ≡ came_rest log x
 
-reads_piece : (flight : InFlight) (a : Asker) (log : Log) (x : Piece) → IsLog flight a log → fault_in a log ≡ None →
+reads_piece : (a : Asker) (log : Log) (x : Piece) → IsLog a log → fault_in a log ≡ None →
     ReadsPiece a log x (client_reading a (commands_of log) (past_of a log) (came_frames log x) (came_rest log x))
-reads_piece flight a log x is fine =
+reads_piece a log x is fine =
     let v = stream_of log in
     let cmds = commands_of log in
     let now = max (latest_of log) x.moment in
@@ -187,7 +188,7 @@ reads_piece flight a log x is fine =
     let P = past_of a log in
     let gs = came_frames log x in
     let rest = came_rest log x in
-    let i = along flight a log is in
+    let i = along a log is in
     let k = rest_retimed (rest_of v) now x.bytes (framed v).partial in
     let m = frames_more v t in
     let goes = reading_goes a cmds [] (frames_of v) gs (plain (rest_of v)) rest fine in
@@ -199,20 +200,20 @@ reads_piece flight a log x is fine =
     }
 
 -- what is sent then
-pub came_sent : (flight : InFlight) (a : Asker) (log : Log) (x : Piece) → IsLog flight a log → fault_in a log ≡ None →
+pub came_sent : (a : Asker) (log : Log) (x : Piece) → IsLog a log → fault_in a log ≡ None →
     sent_of a (Came x ∷ log) ≡ sent_of a log ++ (client_run_on a (awaiting_of (client_held a log)) (max (client_held a log).moment x.moment) ((client_held a log).rest ++ x.bytes)).says
 unfolding client_held
-came_sent flight a log x is fine =
-    let r = reads_piece flight a log x is fine in
+came_sent a log x is fine =
+    let r = reads_piece a log x is fine in
     ap (λ (R : ClientReading). sent_by a (commands_of log) R.past) r.reading ∙ r.run.said
 
-pub came_gained : (flight : InFlight) (a : Asker) (log : Log) (x : Piece) → 1 ≤ a.first_sequence → IsLog flight a log → fault_in a log ≡ None → ClientGains a log (Came x) (client_gain a (client_held a log) (Came x))
+pub came_gained : (a : Asker) (log : Log) (x : Piece) → 1 ≤ a.first_sequence → IsLog a log → fault_in a log ≡ None → ClientGains a log (Came x) (client_gain a (client_held a log) (Came x))
 unfolding client_held client_gain
-came_gained flight a log x first is fine =
+came_gained a log x first is fine =
     let cmds = commands_of log in
     let all = stream_of (Came x ∷ log) in
     let P = past_of a log in
-    let piece = reads_piece flight a log x is fine in
+    let piece = reads_piece a log x is fine in
     let same = piece.reading in
     let run = piece.run in
     let r = client_run a (awaiting cmds P) (came_frames log x) (came_rest log x) in
@@ -263,20 +264,20 @@ due_now n seen ids xs (Ask request part) h k = ap first_id (append-nil xs)
 due_now n seen ids xs Close h k = ap first_id (append-nil xs)
 due_now n seen ids xs Renew h k = ap (λ l. first_id (l ++ filter (λ r. not (is_among ids r.id)) (record { id = n; seen = seen } ∷ []))) (k refl) ∙ rw h refl
 
-due_with_one : (flight : InFlight) (a : Asker) (cmds : Commands) (v : List TimedByte) (c : Command) → ask_fault flight a cmds v c.act ≡ None → is_among (opened_ids (client_reading_of a cmds v).past) (next_id cmds) ≡ false →
+due_with_one : (a : Asker) (cmds : Commands) (v : List TimedByte) (c : Command) → ask_fault a cmds v c.act ≡ None → is_among (opened_ids (client_reading_of a cmds v).past) (next_id cmds) ≡ false →
     due_in (c ∷ cmds) (client_reading_of a cmds v).past ≡ due_with (due_in cmds (client_reading_of a cmds v).past) (next_id cmds) c.act
-due_with_one flight a cmds v c h fresh_id =
+due_with_one a cmds v c h fresh_id =
     let P = (client_reading_of a cmds v).past in
     let test : OpenAsked → Bool = λ r. not (is_among (opened_ids P) r.id) in
     ap first_id (filter-append test (opens_asked cmds) (opens_by (next_id cmds) c.seen c.act))
     ∙ due_now (next_id cmds) c.seen (opened_ids P) (opening_in cmds P) c.act fresh_id
     (λ e. none_due (opening_in cmds P)
-    (let accepted : ask_fault flight a cmds v Renew ≡ None = ap (ask_fault flight a cmds v) (sym e) ∙ h in
-    (all_no ((is_some (client_reading_of a cmds v).fault, Ended) ∷ (not (standing cmds P).channel_open, NotOpen) ∷ renewing_rows flight (standing cmds P)) accepted).1.1.0))
+    (let accepted : ask_fault a cmds v Renew ≡ None = ap (ask_fault a cmds v) (sym e) ∙ h in
+    (all_no ((is_some (client_reading_of a cmds v).fault, Ended) ∷ (not (standing cmds P).channel_open, NotOpen) ∷ renewing_rows (standing cmds P)) accepted).1.1.0))
 
-pub told_gained : (flight : InFlight) (a : Asker) (log : Log) (now : ℕ) (act : Act) → 1 ≤ a.first_sequence → IsLog flight a (Told now act ∷ log) → fault_in a log ≡ None → ClientGains a log (Told now act) (client_gain a (client_held a log) (Told now act))
+pub told_gained : (a : Asker) (log : Log) (now : ℕ) (act : Act) → 1 ≤ a.first_sequence → IsLog a (Told now act ∷ log) → fault_in a log ≡ None → ClientGains a log (Told now act) (client_gain a (client_held a log) (Told now act))
 unfolding client_held client_gain
-told_gained flight a log now act first is fine =
+told_gained a log now act first is fine =
     let v = stream_of log in
     let cmds = commands_of log in
     let m = max (latest_of log) now in
@@ -299,7 +300,7 @@ told_gained flight a log now act first is fine =
           let waits : waiting_in (c ∷ cmds) (client_reading_of a (c ∷ cmds) v).past ≡ waiting_in cmds P ++ more_waiting (next_id cmds) act =
           ap (λ (R : ClientReading). waiting_in (c ∷ cmds) R.past) same ∙ waiting_with c cmds P (ids.ended (next_id cmds) (omega arith)) in
           let due : due_in (c ∷ cmds) (client_reading_of a (c ∷ cmds) v).past ≡ due_with (due_in cmds P) (next_id cmds) act =
-          ap (λ (R : ClientReading). due_in (c ∷ cmds) R.past) same ∙ due_with_one flight a cmds v c is.0 (ids.opened (next_id cmds) (omega arith)) in
+          ap (λ (R : ClientReading). due_in (c ∷ cmds) R.past) same ∙ due_with_one a cmds v c is.0 (ids.opened (next_id cmds) (omega arith)) in
           let numbers : number_after a.first_sequence (sent_after 0 (sent_by a (c ∷ cmds) (client_reading_of a (c ∷ cmds) v).past)) ≡ next_sent (number_after a.first_sequence (sent_after 0 (sent_by a cmds P))) says =
           ap (λ (R : ClientReading). number_after a.first_sequence (sent_after 0 (sent_by a (c ∷ cmds) R.past))) same ∙ ap (λ l. number_after a.first_sequence (sent_after 0 l)) said ∙ number_behind a.first_sequence (sent_by a cmds P) says first in
           let next : next_id (c ∷ cmds) ≡ next_id cmds + 1 = omega arith in
@@ -315,6 +316,6 @@ told_gained flight a log now act first is fine =
           });
     }
 
-pub client_by_record : (flight : InFlight) → ClientByRecord flight
-client_by_record flight a h (Came x) first = (client_gain a h (Came x), λ log is fine e. subst (λ k. ClientGains a log (Came x) (client_gain a k (Came x))) e (came_gained flight a log x first is fine))
-client_by_record flight a h (Told now act) first = (client_gain a h (Told now act), λ log is fine e. subst (λ k. ClientGains a log (Told now act) (client_gain a k (Told now act))) e (told_gained flight a log now act first is fine))
+pub client_by_record : ClientByRecord
+client_by_record a h (Came x) first = (client_gain a h (Came x), λ log is fine e. subst (λ k. ClientGains a log (Came x) (client_gain a k (Came x))) e (came_gained a log x first is fine))
+client_by_record a h (Told now act) first = (client_gain a h (Told now act), λ log is fine e. subst (λ k. ClientGains a log (Told now act) (client_gain a k (Told now act))) e (told_gained a log now act first is fine))

@@ -1,12 +1,11 @@
 -- From the bytes of one more piece to all that happened to a client.
-use Rattle.std.proofs.Common.{◌≡◌, ℕ, max, false, true, List, [], ◌∷◌, ◌++◌, map, drop, Option, Some, None, refl, sym, ap, subst, ◌∙◌}
+use Rattle.std.proofs.Common.{◌≡◌, ℕ, max, true, List, [], ◌∷◌, ◌++◌, map, drop, Option, Some, None, refl, sym, ap, subst, ◌∙◌}
 use Rattle.std.proofs.lemmas.List.{append-nil}
 use Rattle.ua_frame.specs.Streams.{Piece, at, plain, rest_of}
 use Rattle.ua_frame.specs.Layout.{Frame, frames_of}
 use Rattle.ua_conn.specs.client.Asker.{Asker}
 use Rattle.ua_conn.specs.client.Faults.{client_fault_by}
 use Rattle.ua_conn.specs.client.Sending.{sent_after}
-use Rattle.ua_conn.specs.client.Asking.{InFlight}
 use Rattle.ua_conn.specs.client.Held.{Came, Log, ClientHeld, client_held, ClientGains}
 use Rattle.ua_conn.specs.client.Machine.{Awaiting, ClientRun, awaiting_of, awaiting_fault, awaiting_after, frame_says, frame_answers, ahead_of, client_run, client_run_on, sent_next, next_sent, client_gain}
 use Rattle.ua_conn.specs.client.Taking.{ClientRunning}
@@ -60,13 +59,13 @@ held_then old x r = record old.held {
 record Gained (a : Asker) (log : Log) (x : Piece) (old : ClientShown) (r : ClientRun) : Type 0 where
   gains : ClientGains a log (Came x) (record { bytes = sent_next old.held.next r.says; answers = r.answers; fault = r.fault; after = held_then old x r })
 
-gained : (flight : InFlight) (a : Asker) (log : Log) (x : Piece) (old : ClientShown) → Lived flight a log old → Gained a log x old (came old x)
+gained : (a : Asker) (log : Log) (x : Piece) (old : ClientShown) → Lived a log old → Gained a log x old (came old x)
 unfolding client_gain
-gained flight a log x old l =
+gained a log x old l =
     subst (λ (r : ClientRun). Gained a log x old r) (same_brought a old.config (awaiting_of old.held) (max old.held.moment x.moment) (old.held.rest ++ x.bytes) l.config)
-    (record { gains = subst (λ k. ClientGains a log (Came x) (client_gain a k (Came x))) l.held_is (came_gained flight a log x l.first l.accepted l.fine) })
+    (record { gains = subst (λ k. ClientGains a log (Came x) (client_gain a k (Came x))) l.held_is (came_gained a log x l.first l.accepted l.fine) })
 
-pub hands : (flight : InFlight) (old shown : ClientShown) (x : Piece) (moment : ℕ) (new : ClientRunning) (given : List Answer) (used : ℕ) →
+pub hands : (old shown : ClientShown) (x : Piece) (moment : ℕ) (new : ClientRunning) (given : List Answer) (used : ℕ) →
     Hears (running old.config old.held moment) new (max old.held.moment x.moment) (old.held.rest ++ x.bytes) (record { bytes = old.output; answers = [] }) (record { bytes = shown.output; answers = given }) used →
     shown ≡ record {
       config = new.config;
@@ -81,9 +80,9 @@ pub hands : (flight : InFlight) (old shown : ClientShown) (x : Piece) (moment : 
       output = shown.output;
       failed = old.failed;
     } →
-    (a : Asker) (log : Log) → Lived flight a log old → Hands a log x old shown given
-hands flight old shown x moment new given used h s a log l =
-    let g = (gained flight a log x old l).gains in record {
+    (a : Asker) (log : Log) → Lived a log old → Hands a log x old shown given
+hands old shown x moment new given used h s a log l =
+    let g = (gained a log x old l).gains in record {
       fine = g.fault_is ∙ h.fine;
       answered = g.answered ∙ ap (λ ys. answers_of a log ++ ys) (sym h.given);
       sends = record { added = _; out_is = h.said; sent = g.sent };
@@ -96,20 +95,20 @@ hands flight old shown x moment new given used h s a log l =
           ∙ (λ i. record old { held = sym (g.after_is h.fine) i; output = shown.output });
     }
 
-fails : (flight : InFlight) (old shown : ClientShown) (x : Piece) (moment : ℕ) (fault : ClientFault) →
+fails : (old shown : ClientShown) (x : Piece) (moment : ℕ) (fault : ClientFault) →
     Breaks (running old.config old.held moment) (max old.held.moment x.moment) (old.held.rest ++ x.bytes) old.output shown.output fault → shown.failed ≡ true →
-    (a : Asker) (log : Log) → Lived flight a log old → Fails a log x old shown fault
-fails flight old shown x moment fault h f a log l =
-    let g = (gained flight a log x old l).gains in
+    (a : Asker) (log : Log) → Lived a log old → Fails a log x old shown fault
+fails old shown x moment fault h f a log l =
+    let g = (gained a log x old l).gains in
     record { fault_is = g.fault_is ∙ h.fault_is; sends = record { added = _; out_is = h.said; sent = g.sent }; failed = f }
 
 -- the frames that one more piece asks for
-more_sent : (flight : InFlight) (a : Asker) (log : Log) (x : Piece) (old : ClientShown) → Lived flight a log old →
+more_sent : (a : Asker) (log : Log) (x : Piece) (old : ClientShown) → Lived a log old →
     (out : List ℕ) → SaysPart old.held.next (came old x).says old.output out → SendsPart a log (Came x) old.output out
 unfolding client_held
-more_sent flight a log x old l out p = record {
+more_sent a log x old l out p = record {
   gained = (came old x).says;
-  sent = came_sent flight a log x l.accepted l.fine
+  sent = came_sent a log x l.accepted l.fine
       ∙ ap (λ (k : ClientHeld). sent_of a log ++ (client_run_on a (awaiting_of k) (max k.moment x.moment) (k.rest ++ x.bytes)).says) l.held_is
       ∙ ap (λ (r : ClientRun). sent_of a log ++ r.says) (same_brought a old.config (awaiting_of old.held) (max old.held.moment x.moment) (old.held.rest ++ x.bytes) l.config);
   said = p.said;
@@ -119,16 +118,16 @@ more_sent flight a log x old l out p = record {
 }
 
 -- where it fails, whatever the fault is
-pub breaks : (flight : InFlight) (old shown : ClientShown) (x : Piece) (moment : ℕ) (fault : ClientFault) →
+pub breaks : (old shown : ClientShown) (x : Piece) (moment : ℕ) (fault : ClientFault) →
     BreaksBy (running old.config old.held moment) (max old.held.moment x.moment) (old.held.rest ++ x.bytes) old.output shown.output fault → shown.failed ≡ true →
-    (a : Asker) (log : Log) → Lived flight a log old → FailsBy a log x old shown fault
-breaks flight old shown x moment (ServerSaid status reason) h f a log l = fails flight old shown x moment (ServerSaid status reason) h f a log l
-breaks flight old shown x moment (Broken status) h f a log l = fails flight old shown x moment (Broken status) h f a log l
-breaks flight old shown x moment NoMemory h f a log l = (more_sent flight a log x old l shown.output h, f)
-breaks flight old shown x moment Ended h f a log l = absurd h
+    (a : Asker) (log : Log) → Lived a log old → FailsBy a log x old shown fault
+breaks old shown x moment (ServerSaid status reason) h f a log l = fails old shown x moment (ServerSaid status reason) h f a log l
+breaks old shown x moment (Broken status) h f a log l = fails old shown x moment (Broken status) h f a log l
+breaks old shown x moment NoMemory h f a log l = (more_sent a log x old l shown.output h, f)
+breaks old shown x moment Ended h f a log l = absurd h
 
 -- where memory ran out before a byte was heard
-pub breaks_first : (flight : InFlight) (old shown : ClientShown) (x : Piece) → shown.output ≡ old.output → shown.failed ≡ true →
-    (a : Asker) (log : Log) → Lived flight a log old → FailsBy a log x old shown NoMemory
-breaks_first flight old shown x e f a log l =
-    (more_sent flight a log x old l shown.output (record { said = []; left = _; begins = refl; added = e ∙ sym (append-nil old.output) }), f)
+pub breaks_first : (old shown : ClientShown) (x : Piece) → shown.output ≡ old.output → shown.failed ≡ true →
+    (a : Asker) (log : Log) → Lived a log old → FailsBy a log x old shown NoMemory
+breaks_first old shown x e f a log l =
+    (more_sent a log x old l shown.output (record { said = []; left = _; begins = refl; added = e ∙ sym (append-nil old.output) }), f)

@@ -38,7 +38,7 @@ bytes_of_frames s =
     let h = framed s in
     omega (arith, bytes_of_cuts (cuts_of s) [], ap length h.whole, length-append (flat_map (λ f. f) (cuts_of s)) (rest_of s))
 
-grows : (fs : List Frame) (past : Past) → bytes_in past ≤ bytes_in (newest_first fs past)
+pub grows : (fs : List Frame) (past : Past) → bytes_in past ≤ bytes_in (newest_first fs past)
 grows [] past = omega arith
 grows (f ∷ fs) past = omega (arith, grows fs (f ∷ past))
 

@@ -3,11 +3,11 @@ use Rattle.std.proofs.Common.{◌≡◌, ℕ, ◌≤◌, List, length, ap, ◌�
 use Rattle.ua_service.specs.ValueLaws.{open_request_length, close_request_length}
 use Rattle.ua_conn.specs.client.Questions.{open_asked_body, close_asked_body}
 
-open_length : (now id type lifetime : ℕ) → length (open_asked_body now id type lifetime) ≡ 53
+pub open_length : (now id type lifetime : ℕ) → length (open_asked_body now id type lifetime) ≡ 53
 unfolding open_asked_body
 open_length now id type lifetime = open_request_length now id type lifetime
 
-close_length : (now id : ℕ) → length (close_asked_body now id) ≡ 33
+pub close_length : (now id : ℕ) → length (close_asked_body now id) ≡ 33
 unfolding close_asked_body
 close_length now id = close_request_length now id
 

@@ -20,6 +20,19 @@ use Rattle.ua_conn.specs.client.Reading.{ClientReading, client_fault_at, client_
 use Rattle.ua_conn.specs.declared.client.fault.ClientFault.{ClientFault}
 use Rattle.ua_conn.proofs.ClientEnd.PlaceLemmas.{AllWithin}
 
+-- ---- what is true of every frame that stands
+
+-- what each frame that stands keeps is true of a reading
+pub along_reading : (Q : Past → Type 0) (a : Asker) (cmds : Commands) → ((past : Past) (f : Frame) → client_fault_at a cmds past f ≡ None → Q past → Q (f ∷ past)) →
+    (past : Past) (fs : List Frame) (rest : List ℕ) → Q past → Q (client_reading a cmds past fs rest).past
+along_reading Q a cmds step past [] rest h = h
+along_reading Q a cmds step past (f ∷ fs) rest h = by (client_fault_at a cmds past f) refl (along_reading Q a cmds step (f ∷ past) fs rest)
+  where
+    by : (o : Option ClientFault) → client_fault_at a cmds past f ≡ o → (Q (f ∷ past) → Q (client_reading a cmds (f ∷ past) fs rest).past) →
+        (let R : ClientReading = elim o [ Some fault ↦ record { past = past; fault = Some fault } | None ↦ client_reading a cmds (f ∷ past) fs rest ] in Q R.past)
+    by (Some fault) e k = h
+    by None e k = k (step past f e h)
+
 -- ---- more frames
 
 -- the frames hs stand behind those that stood, and they are the first of gs, behind fs, where all of fs stands

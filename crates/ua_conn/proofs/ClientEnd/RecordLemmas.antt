@@ -5,6 +5,7 @@ use Rattle.std.specs.List.{filter, find}
 use Rattle.std.proofs.lemmas.List.{length-map}
 use Rattle.std.proofs.lemmas.List.Elements.{filter-append}
 use Rattle.std.proofs.lemmas.Bool.{lt-ltb}
+use Rattle.ua_frame.specs.Rows.{first_row}
 use Rattle.ua_frame.specs.Layout.{Frame}
 use Rattle.ua_service.specs.declared.request.Request.{Request}
 use Rattle.ua_conn.specs.Past.{Past, carried}
@@ -12,9 +13,9 @@ use Rattle.ua_conn.specs.client.Asker.{Asker}
 use Rattle.ua_conn.specs.client.Commands.{Act, Ask, Renew, Close, Commands, Asked, OpenAsked, asked_in, asked_by, opens_asked, opens_by, next_id, request_under, is_closed}
 use Rattle.ua_conn.specs.client.Past.{client_known}
 use Rattle.ua_conn.specs.client.Pending.{bytes_in, is_among, ends_one, ended_ids, opened_ids, pending_in, wanted_at, due_in, due_at, first_id}
-use Rattle.ua_conn.specs.client.Faults.{first_of, client_fault_by, token_usable}
+use Rattle.ua_conn.specs.client.Faults.{client_fault_by, token_usable}
 use Rattle.ua_conn.specs.client.Reading.{client_fault_at, client_reading_of}
-use Rattle.ua_conn.specs.client.Asking.{InFlight, standing, standing_by, act_rows, refusal}
+use Rattle.ua_conn.specs.client.Asking.{standing, standing_by, act_rows, refusal}
 use Rattle.ua_conn.specs.client.Held.{commands_of, stream_of, waiting_in, client_held, RefusedByRecord}
 use Rattle.ua_conn.specs.client.Machine.{Awaiting, awaiting_fault, waiting_under, without}
 use Rattle.ua_conn.specs.declared.client.fault.ClientFault.{ClientFault}
@@ -23,56 +24,47 @@ use Rattle.ua_conn.proofs.BothEnds.FaithfulLemmas.{AllSeen}
 
 -- ---- commands
 
-pub refused_by_record : (flight : InFlight) → RefusedByRecord flight
+pub refused_by_record : RefusedByRecord
 unfolding client_held
-refused_by_record flight a log act s =
+refused_by_record a log act s =
     let cmds = commands_of log in
     let r = client_reading_of a cmds (stream_of log) in
     let same : length (waiting_in cmds r.past) ≡ length (pending_in cmds r.past) = length-map (pending_in cmds r.past) (λ w. (w.id, w.request)) in
-    ap (λ (o : Option ClientFault). first_of ((is_some o, Ended) ∷ (not (standing cmds r.past).channel_open, NotOpen) ∷ act_rows flight (standing cmds r.past) act)) s.1
-    ∙ ap (λ (n : ℕ). refusal flight (standing_by (client_known r.past) (is_closed cmds) n (due_in cmds r.past) (next_id cmds)) act) (sym same)
+    ap (λ (o : Option ClientFault). first_row ((is_some o, Ended) ∷ (not (standing cmds r.past).channel_open, NotOpen) ∷ act_rows (standing cmds r.past) act)) s.1
+    ∙ ap (λ (n : ℕ). refusal (standing_by (client_known r.past) (is_closed cmds) n (due_in cmds r.past) (next_id cmds)) act) (sym same)
 
 -- ---- frames
+
+-- where all that a test passes is kept in two lists, so it is in both together
+kept_join : {X : Type 0} (p test : X → Bool) (xs ys : List X) → filter p (filter test xs) ≡ filter test xs → filter p (filter test ys) ≡ filter test ys → filter p (filter test (xs ++ ys)) ≡ filter test (xs ++ ys)
+kept_join p test xs ys h k = ap (filter p) (filter-append test xs ys) ∙ filter-append p (filter test xs) (filter test ys) ∙ (λ i. h i ++ k i) ∙ sym (filter-append test xs ys)
+
+kept_one : {X : Type 0} (p test : X → Bool) (x : X) → p x ≡ true → filter p (filter test (x ∷ [])) ≡ filter test (x ∷ [])
+kept_one {X} p test x e = by (test x)
+  where
+    by : (b : Bool) → filter p (cond b (x ∷ []) []) ≡ cond b (x ∷ []) []
+    by true = ap (λ (c : Bool). cond c (x ∷ []) []) e
+    by false = refl
 
 -- what was asked by a place was asked before a later one
 all_asked : (n end : ℕ) (cmds : Commands) → n < end → AllSeen n cmds → (test : Asked → Bool) → filter (λ a. nat_lt a.seen end) (filter test (asked_in cmds)) ≡ filter test (asked_in cmds)
 unfolding AllSeen
 all_asked n end [] lt h test = refl
-all_asked n end (c ∷ cmds) lt h test =
-    ap (filter (λ a. nat_lt a.seen end)) (filter-append test (asked_in cmds) (asked_by (next_id cmds) c.seen c.act))
-    ∙ filter-append (λ a. nat_lt a.seen end) (filter test (asked_in cmds)) (filter test (asked_by (next_id cmds) c.seen c.act))
-    ∙ (λ i. all_asked n end cmds lt h.1 test i ++ of_one c.act i)
-    ∙ sym (filter-append test (asked_in cmds) (asked_by (next_id cmds) c.seen c.act))
+all_asked n end (c ∷ cmds) lt h test = kept_join (λ (a : Asked). nat_lt a.seen end) test (asked_in cmds) (asked_by (next_id cmds) c.seen c.act) (all_asked n end cmds lt h.1 test) (of_one c.act)
   where
-    one : (x : Asked) (b : Bool) → nat_lt x.seen end ≡ true → filter (λ (a : Asked). nat_lt a.seen end) (cond b (x ∷ []) []) ≡ cond b (x ∷ []) []
-    one x true e = rw e refl
-    one x false e = refl
-
     of_one : (act : Act) → filter (λ (a : Asked). nat_lt a.seen end) (filter test (asked_by (next_id cmds) c.seen act)) ≡ filter test (asked_by (next_id cmds) c.seen act)
-    of_one (Ask request part) = let x : Asked = record { id = next_id cmds; request = request; seen = c.seen } in one x (test x) (lt-ltb c.seen end (omega (arith, lt, h.0)))
+    of_one (Ask request part) = kept_one (λ (a : Asked). nat_lt a.seen end) test (record { id = next_id cmds; request = request; seen = c.seen }) (lt-ltb c.seen end (omega (arith, lt, h.0)))
     of_one Renew = refl
     of_one Close = refl
 
 all_opens : (n end : ℕ) (cmds : Commands) → n < end → AllSeen n cmds → (test : OpenAsked → Bool) → filter (λ r. nat_lt r.seen end) (filter test (opens_asked cmds)) ≡ filter test (opens_asked cmds)
 unfolding AllSeen
-all_opens n end [] lt h test = one (record { id = 1; seen = 0 }) (test (record { id = 1; seen = 0 })) (lt-ltb 0 end (omega (arith, lt)))
+all_opens n end [] lt h test = kept_one (λ (r : OpenAsked). nat_lt r.seen end) test (record { id = 1; seen = 0 }) (lt-ltb 0 end (omega (arith, lt)))
+all_opens n end (c ∷ cmds) lt h test = kept_join (λ (r : OpenAsked). nat_lt r.seen end) test (opens_asked cmds) (opens_by (next_id cmds) c.seen c.act) (all_opens n end cmds lt h.1 test) (of_one c.act)
   where
-    one : (x : OpenAsked) (b : Bool) → nat_lt x.seen end ≡ true → filter (λ (a : OpenAsked). nat_lt a.seen end) (cond b (x ∷ []) []) ≡ cond b (x ∷ []) []
-    one x true e = rw e refl
-    one x false e = refl
-all_opens n end (c ∷ cmds) lt h test =
-    ap (filter (λ r. nat_lt r.seen end)) (filter-append test (opens_asked cmds) (opens_by (next_id cmds) c.seen c.act))
-    ∙ filter-append (λ r. nat_lt r.seen end) (filter test (opens_asked cmds)) (filter test (opens_by (next_id cmds) c.seen c.act))
-    ∙ (λ i. all_opens n end cmds lt h.1 test i ++ of_one c.act i)
-    ∙ sym (filter-append test (opens_asked cmds) (opens_by (next_id cmds) c.seen c.act))
-  where
-    one : (x : OpenAsked) (b : Bool) → nat_lt x.seen end ≡ true → filter (λ (a : OpenAsked). nat_lt a.seen end) (cond b (x ∷ []) []) ≡ cond b (x ∷ []) []
-    one x true e = rw e refl
-    one x false e = refl
-
-    of_one : (act : Act) → filter (λ (a : OpenAsked). nat_lt a.seen end) (filter test (opens_by (next_id cmds) c.seen act)) ≡ filter test (opens_by (next_id cmds) c.seen act)
+    of_one : (act : Act) → filter (λ (r : OpenAsked). nat_lt r.seen end) (filter test (opens_by (next_id cmds) c.seen act)) ≡ filter test (opens_by (next_id cmds) c.seen act)
     of_one (Ask request part) = refl
-    of_one Renew = let x : OpenAsked = record { id = next_id cmds; seen = c.seen } in one x (test x) (lt-ltb c.seen end (omega (arith, lt, h.0)))
+    of_one Renew = kept_one (λ (r : OpenAsked). nat_lt r.seen end) test (record { id = next_id cmds; seen = c.seen }) (lt-ltb c.seen end (omega (arith, lt, h.0)))
     of_one Close = refl
 
 -- the request of an id, among those that wait

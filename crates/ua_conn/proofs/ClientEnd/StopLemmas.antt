@@ -1,11 +1,11 @@
 -- Once a client has met a fault, what comes later changes nothing.
-use Rattle.std.proofs.Common.{◌≡◌, ℕ, ◌<◌, ◌≤◌, Bool, List, [], ◌∷◌, ◌++◌, take, length, Option, Some, None, refl, sym, ap, ◌∙◌, arith, ◌⊎◌, inl, inr}
+use Rattle.std.proofs.Common.{◌≡◌, ℕ, ◌≤◌, Bool, List, [], ◌∷◌, ◌++◌, take, Option, Some, None, refl, sym, ap, ◌∙◌}
 use Rattle.std.specs.Prelude.{option_map}
-use Rattle.std.proofs.lemmas.Bool.{cases_lt}
-use Rattle.ua_frame.specs.Streams.{TimedByte, plain, size_of, IsFrame, rest_of}
-use Rattle.ua_frame.specs.StreamLaws.{frame_size, front_is_frame, plain_take, plain_append}
-use Rattle.ua_frame.specs.Layout.{Frame, last_moment, frame_by, frames_of, kind_of, flag_of}
-use Rattle.ua_frame.specs.LayoutLaws.{frames_more, frames_step, frames_stop}
+use Rattle.ua_frame.specs.Rows.{first_row, or_else}
+use Rattle.ua_frame.specs.Streams.{TimedByte, plain, size_of, rest_of}
+use Rattle.ua_frame.specs.StreamLaws.{plain_append}
+use Rattle.ua_frame.specs.Layout.{Frame, frames_of, kind_of, flag_of}
+use Rattle.ua_frame.specs.LayoutLaws.{frames_more}
 use Rattle.ua_frame.specs.HeaderRows.{header_fault}
 use Rattle.ua_frame.specs.HeaderLaws.{header_fault_take, header_fault_stays}
 use Rattle.ua_service.specs.declared.request.Request.{Request}
@@ -14,10 +14,11 @@ use Rattle.ua_conn.specs.client.Asker.{Asker}
 use Rattle.ua_conn.specs.client.Commands.{Commands}
 use Rattle.ua_conn.specs.client.Past.{ClientKnown, client_known}
 use Rattle.ua_conn.specs.client.Pending.{bytes_in, wanted_at, due_at}
-use Rattle.ua_conn.specs.client.Faults.{first_of, or_fault, greatest_answer, client_rows, client_fault_by, client_fault_in_rest, token_usable}
+use Rattle.ua_conn.specs.client.Faults.{greatest_answer, client_rows, client_fault_by, client_fault_in_rest, token_usable}
 use Rattle.ua_conn.specs.client.Reading.{ClientReading, client_fault_at, client_reading, client_reading_of, client_fault}
 use Rattle.ua_conn.specs.declared.client.fault.ClientFault.{ClientFault}
 use Rattle.ua_conn.specs.declared.client.fault.ClientFault.TheVariants.{Broken}
+use Rattle.ua_conn.proofs.FrontFrameLemmas.{front_of, by_front}
 
 -- the reading with a rest that has a bad header or none
 later_cases : (o : Option ClientFault) (past : Past) (R R' : ClientReading) (e : ClientFault) → (R.fault ≡ Some e → R' ≡ R) →
@@ -53,7 +54,7 @@ bad_whole : (a : Asker) (k : ClientKnown) (due : Option ℕ) (wanted : Option Re
 unfolding client_fault_by client_fault_in_rest
 bad_whole a k due wanted usable b z now e low h =
     let f : Frame = record { bytes = take z b; moment = now } in
-    ap (λ o. or_fault o (first_of (client_rows a k due wanted usable f (flag_of f.bytes) (kind_of f.bytes)))) (ap (option_map Broken) (header_fault_take (greatest_answer k.ack) z b low) ∙ h)
+    ap (λ o. or_else o (first_row (client_rows a k due wanted usable f (flag_of f.bytes) (kind_of f.bytes)))) (ap (option_map Broken) (header_fault_take (greatest_answer k.ack) z b low) ∙ h)
 
 refuses_cases : (o : Option ClientFault) (past : Past) (R : ClientReading) (e : ClientFault) → o ≡ Some e →
     (let r : ClientReading = elim o [ Some fault ↦ record { past = past; fault = Some fault } | None ↦ R ] in r ≡ record { past = past; fault = Some e })
@@ -66,31 +67,14 @@ reading_refuses a cmds past f fs rest e h = refuses_cases (client_fault_at a cmd
 -- what a bad header brings, whether the frame is whole or not
 bad_reading : (a : Asker) (cmds : Commands) (past : Past) (s : List TimedByte) (e : ClientFault) → client_fault_in_rest (client_known past) (plain s) ≡ Some e →
     client_reading a cmds past (frames_of s) (plain (rest_of s)) ≡ record { past = past; fault = Some e }
-bad_reading a cmds past s e h = by_sizes (cases_lt (size_of (plain s)) 8) (cases_lt (length (plain s)) (size_of (plain s)))
-  where
-    one : 8 ≤ size_of (plain s) → size_of (plain s) ≤ length (plain s) → client_reading a cmds past (frames_of s) (plain (rest_of s)) ≡ record { past = past; fault = Some e }
-    one low high =
-        let z = size_of (plain s) in
-        let c = frames_step s z (front_is_frame (plain s) low high) in
-        let f = frame_by (take z s) in
-        let end = bytes_in (f ∷ past) in
-        let k = client_known past in
-        let g : Frame = record { bytes = take z (plain s); moment = last_moment (take z s) } in
-        let same : f ≡ g = λ i. record { bytes = plain_take z s i; moment = last_moment (take z s) } in
-        let fault : client_fault_at a cmds past f ≡ Some e =
-        ap (client_fault_by a k (due_at cmds past end) (wanted_at cmds past end (carried f).request_id) (token_usable k f)) same
-        ∙ bad_whole a k (due_at cmds past end) (wanted_at cmds past end (carried f).request_id) (token_usable k f) (plain s) z (last_moment (take z s)) e low h in
-        (λ i. client_reading a cmds past (c.0 i) (plain (rest_of s))) ∙ reading_refuses a cmds past f _ (plain (rest_of s)) e fault
-
-    none : ((n : ℕ) → n ≤ length (plain s) → IsFrame (take n (plain s)) → ⊥) → client_reading a cmds past (frames_of s) (plain (rest_of s)) ≡ record { past = past; fault = Some e }
-    none lacks =
-        let n = frames_stop s lacks in
-        (λ i. client_reading a cmds past (n.0 i) (plain (n.1 i))) ∙ (λ i. record { past = past; fault = h i })
-
-    by_sizes : (size_of (plain s) < 8) ⊎ (8 ≤ size_of (plain s)) → (length (plain s) < size_of (plain s)) ⊎ (size_of (plain s) ≤ length (plain s)) → client_reading a cmds past (frames_of s) (plain (rest_of s)) ≡ record { past = past; fault = Some e }
-    by_sizes (inr low) (inr high) = one low high
-    by_sizes (inl small) b = none (λ n le is. (let z = frame_size n (plain s) le is in omega (arith, small, z.0, z.1)))
-    by_sizes (inr low) (inl long) = none (λ n le is. (let z = frame_size n (plain s) le is in omega (arith, long, le, z.1)))
+bad_reading a cmds past s e h =
+    let f = front_of s in
+    let end = bytes_in (f ∷ past) in
+    let k = client_known past in
+    by_front (λ fs rest. client_reading a cmds past fs rest ≡ record { past = past; fault = Some e }) s
+    (λ low fs rest. reading_refuses a cmds past f fs rest e
+    (bad_whole a k (due_at cmds past end) (wanted_at cmds past end (carried f).request_id) (token_usable k f) (plain s) (size_of (plain s)) f.moment e low h))
+    (λ i. record { past = past; fault = h i })
 
 -- a stream with a fault, read with what comes later
 pub client_reading_stays : (a : Asker) (cmds : Commands) (s t : List TimedByte) (e : ClientFault) → client_fault a cmds s ≡ Some e → client_reading_of a cmds (s ++ t) ≡ client_reading_of a cmds s

@@ -1,6 +1,7 @@
 -- What the definitions say of a frame of each type that comes to a client, by its parts.
 use Rattle.std.proofs.Common.{◌≡◌, ℕ, Bool, true, false, cond, ◌&&◌, ◌==◌, List, [], ◌∷◌, Option, Some, None, refl, ap, ◌∙◌}
 use Rattle.std.specs.Prelude.{not, is_some, is_none, length, option_map}
+use Rattle.ua_frame.specs.Rows.{first_row, or_else}
 use Rattle.ua_frame.specs.HeaderRows.{header_fault}
 use Rattle.ua_frame.specs.Layout.{Frame, Parts, IsFrameOf, kind_of, flag_of}
 use Rattle.ua_frame.specs.Hello.{acknowledge_of, error_of}
@@ -11,16 +12,14 @@ use Rattle.ua_chunk.specs.Layout.{open_chunk_of, chunk_of}
 use Rattle.ua_chunk.specs.Half.{half_after, ends_message}
 use Rattle.ua_channel.specs.Token.{two_newest}
 use Rattle.ua_conn.specs.Past.{is_open, is_message, has_number, carried, open_in, sequence_of}
-use Rattle.ua_conn.specs.client.Past.{ClientKnown, is_acknowledge, is_acknowledge_frame, acknowledge_in, response_in, granted_by, channel_named}
+use Rattle.ua_conn.specs.client.Past.{ClientKnown, is_acknowledge, acknowledge_in, response_in, granted_by, channel_named}
 use Rattle.ua_conn.specs.client.Pending.{opening_id}
-use Rattle.ua_conn.specs.client.Faults.{FaultRow, first_of, broken, or_fault, greatest_answer, is_awaited, client_rows, awaited_rows, error_rows, client_fault_by, token_usable}
+use Rattle.ua_conn.specs.client.Faults.{FaultRow, greatest_answer, is_awaited, client_rows, awaited_rows, error_rows, client_fault_by, token_usable}
 use Rattle.ua_conn.specs.client.Reading.{answer_at, answer_with, result_by}
-use Rattle.ua_conn.specs.client.Sending.{Sent, Opening, opens_by}
-use Rattle.ua_conn.specs.client.Questions.{open_asked_body}
+use Rattle.ua_conn.specs.client.Sending.{Sent, opens_by}
 use Rattle.ua_conn.specs.client.Machine.{Awaiting, or_ack, client_known_after, waiting_under, without, unless_id, awaiting_fault, awaiting_after, frame_says, frame_answers}
 use Rattle.ua_conn.specs.client.Effects.{asker_with, ClientEffect, opens_at, acknowledge_effect, opening_effect, answer_effect}
 use Rattle.ua_conn.specs.declared.client.config.ClientConfig.{ClientConfig}
-use Rattle.ua_conn.specs.declared.client.fault.ClientFault.{ClientFault}
 use Rattle.ua_conn.specs.declared.client.fault.ClientFault.TheVariants.{Broken}
 use Rattle.ua_conn.specs.declared.client.answer.Answer.{Answer}
 
@@ -36,9 +35,9 @@ type_rows_at config w f flag kind =
 
 -- with a header in order, the first row of the whole frame decides
 pub by_rows : (config : ClientConfig) (w : Awaiting) (f : Frame) → header_fault (greatest_answer w.known.ack) f.bytes ≡ None →
-    awaiting_fault (asker_with config) w f ≡ first_of (rows_at config w f (flag_of f.bytes) (kind_of f.bytes))
+    awaiting_fault (asker_with config) w f ≡ first_row (rows_at config w f (flag_of f.bytes) (kind_of f.bytes))
 unfolding client_fault_by
-by_rows config w f h = ap (λ o. or_fault (option_map Broken o) (first_of (rows_at config w f (flag_of f.bytes) (kind_of f.bytes)))) h
+by_rows config w f h = ap (λ o. or_else (option_map Broken o) (first_row (rows_at config w f (flag_of f.bytes) (kind_of f.bytes)))) h
 
 -- ---- what is known then
 
@@ -110,12 +109,12 @@ silent false xs = refl
 
 -- the effect is that of the frame
 pub record IsEffect (e : ClientEffect) (config : ClientConfig) (w : Awaiting) (f : Frame) : Type 0 where
-  pub rows : first_of (rows_at config w f (flag_of f.bytes) (kind_of f.bytes)) ≡ first_of e.rows
+  pub rows : first_row (rows_at config w f (flag_of f.bytes) (kind_of f.bytes)) ≡ first_row e.rows
   pub waits : awaiting_after w f ≡ e.waits
   pub says : frame_says (asker_with config) w f ≡ e.says
   pub gives : frame_answers w f ≡ e.gives
 
-in_turn : (b : Bool) (rows : List FaultRow) → b ≡ true → first_of ((not b, Broken 0x807E0000) ∷ rows) ≡ first_of rows
+in_turn : (b : Bool) (rows : List FaultRow) → b ≡ true → first_row ((not b, Broken 0x807E0000) ∷ rows) ≡ first_row rows
 in_turn true rows h = refl
 in_turn false rows h = absurd (cc)
 
@@ -126,9 +125,9 @@ by_acknowledge config w f parts is e turn =
     let E : List ℕ → ClientEffect = λ x. acknowledge_effect config w f.moment (acknowledge_of x) in
     let none = only_first w.known w.due turn in
     record {
-      rows = ap (λ κ. first_of (rows_at config w f (flag_of f.bytes) κ)) kind
+      rows = ap (λ κ. first_row (rows_at config w f (flag_of f.bytes) κ)) kind
           ∙ in_turn (is_awaited w.known w.due (Some kinds.Acknowledge)) (type_rows_at config w f (flag_of f.bytes) (Some kinds.Acknowledge)) turn
-          ∙ ap (λ x. first_of (E x).rows) is.fields;
+          ∙ ap (λ x. first_row (E x).rows) is.fields;
       waits = waits_by w f _ _ refl kind
           ∙ ap (λ (ack : Option Ack). record w { known = record w.known { ack = ack } }) (first_ack w.known.ack (acknowledge_in f) none)
           ∙ ap (λ x. (E x).waits) is.fields;
@@ -142,9 +141,9 @@ by_open config w f parts is e turn =
     let kind : kind_of f.bytes ≡ Some kinds.Open = is.kind ∙ ap Some e in
     let E : List ℕ → ClientEffect = λ x. opening_effect w f.moment (open_chunk_of x) in
     record {
-      rows = ap (λ κ. first_of (rows_at config w f (flag_of f.bytes) κ)) kind
+      rows = ap (λ κ. first_row (rows_at config w f (flag_of f.bytes) κ)) kind
           ∙ in_turn (is_awaited w.known w.due (Some kinds.Open)) (type_rows_at config w f (flag_of f.bytes) (Some kinds.Open)) turn
-          ∙ ap (λ x. first_of (E x).rows) is.fields;
+          ∙ ap (λ x. first_row (E x).rows) is.fields;
       waits = waits_by w f _ _ refl kind
           ∙ ap (λ (ack : Option Ack). record (waits_at w f (flag_of f.bytes) (Some kinds.Open)) { known = record (known_at w.known f (flag_of f.bytes) (Some kinds.Open)) { ack = ack } }) (same_ack w.known.ack (acknowledge_in f))
           ∙ ap (λ x. (E x).waits) is.fields;
@@ -158,9 +157,9 @@ by_message config w f parts is e turn =
     let kind : kind_of f.bytes ≡ Some kinds.Message = is.kind ∙ ap Some e in
     let E : List ℕ → ClientEffect = λ x. answer_effect config w f.moment parts.flag (chunk_of x) in
     record {
-      rows = (λ i. first_of (rows_at config w f (is.flag i) (kind i)))
+      rows = (λ i. first_row (rows_at config w f (is.flag i) (kind i)))
           ∙ in_turn (is_awaited w.known w.due (Some kinds.Message)) (type_rows_at config w f parts.flag (Some kinds.Message)) turn
-          ∙ ap (λ x. first_of (E x).rows) is.fields;
+          ∙ ap (λ x. first_row (E x).rows) is.fields;
       waits = waits_by w f _ _ is.flag kind
           ∙ ap (λ (ack : Option Ack). record (waits_at w f parts.flag (Some kinds.Message)) { known = record (known_at w.known f parts.flag (Some kinds.Message)) { ack = ack } }) (same_ack w.known.ack (acknowledge_in f))
           ∙ ap (λ x. (E x).waits) is.fields;
@@ -170,7 +169,7 @@ by_message config w f parts is e turn =
 
 -- an ERR, which may come at any time
 pub by_error : (config : ClientConfig) (w : Awaiting) (f : Frame) (parts : Parts) → IsFrameOf f.bytes parts → parts.kind ≡ kinds.Error → header_fault (greatest_answer w.known.ack) f.bytes ≡ None →
-    awaiting_fault (asker_with config) w f ≡ first_of (error_rows (error_of parts.fields))
+    awaiting_fault (asker_with config) w f ≡ first_row (error_rows (error_of parts.fields))
 by_error config w f parts is e h =
     let kind : kind_of f.bytes ≡ Some kinds.Error = is.kind ∙ ap Some e in
-    by_rows config w f h ∙ ap (λ κ. first_of (rows_at config w f (flag_of f.bytes) κ)) kind ∙ ap (λ x. first_of (error_rows (error_of x))) is.fields
+    by_rows config w f h ∙ ap (λ κ. first_row (rows_at config w f (flag_of f.bytes) κ)) kind ∙ ap (λ x. first_row (error_rows (error_of x))) is.fields

@@ -1,6 +1,6 @@
 -- An A frame can follow any part: the part's own channel, token and id, the next number, and an abort body.
 use Rattle.std.proofs.Common.{◌≡◌, ℕ, zero, suc, ◌+◌, ◌/◌, ◌%◌, ◌<◌, ◌≤◌, ◌^◌, Bool, true, false, cond, ◌&&◌, ◌||◌, ◌==◌, nat_lt, List, [], ◌∷◌, ◌++◌, length, Option, Some, None, is_some, refl, sym, ap, subst, ◌∙◌, arith}
-use Rattle.std.proofs.lemmas.Bool.{lt-ltb, ltb-true, ltb-false}
+use Rattle.std.proofs.lemmas.Bool.{lt-ltb, ltb-true, ltb-false, eq-eqb}
 use Rattle.std.specs.Int.{w32, to_le_bytes}
 use Rattle.ua_value.specs.Format.{IsBytes}
 use Rattle.ua_value.specs.Lists.{IsBytes-drop}
@@ -23,7 +23,6 @@ use Rattle.ua_conn.specs.server.Legal.{IsChunk, CanDrop}
 use Rattle.ua_conn.specs.server.Machine.{known_after}
 use Rattle.ua_conn.proofs.ServerEnd.KnownLemmas.{known_step}
 use Rattle.ua_conn.proofs.ServerEnd.ReadyLemmas.{msg_tokens, msg_limits}
-use Rattle.ua_conn.proofs.ServerEnd.RowLemmas.{is_equal}
 
 -- ---- the next number, or 0 at a wrap
 
@@ -39,7 +38,7 @@ unfolding next_number
 next_follows q = by_test (nat_lt q 4294966272) refl
   where
     by_test : (v : Bool) → nat_lt q 4294966272 ≡ v → follows q (cond v (q + 1) 0) ≡ true
-    by_test true e = ap (λ b. b || (nat_lt 4294966271 q && nat_lt (q + 1) 1024)) (is_equal (q + 1) (q + 1) refl)
+    by_test true e = ap (λ b. b || (nat_lt 4294966271 q && nat_lt (q + 1) 1024)) (eq-eqb (q + 1) (q + 1) refl)
     by_test false e = or_second (0 == q + 1) _ (ap (λ b. b && nat_lt 0 1024) (lt-ltb 4294966271 q (omega (arith, ltb-false _ _ e))))
 
 next_fits : (q : ℕ) → next_number q < 2 ^ 32

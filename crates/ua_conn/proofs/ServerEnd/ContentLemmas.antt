@@ -20,10 +20,6 @@ chunk_carried Error flag fields h = absurd (cc)
 chunk_carried ReverseHello flag fields h = absurd (cc)
 chunk_carried Open flag fields h = absurd (cc)
 
-pub flagged_none : (kind : Kind) (flag : ℕ) (o : Option Chunk) → with_flag kind flag o ≡ None → o ≡ None
-flagged_none kind flag None h = refl
-flagged_none kind flag (Some c) h = absurd (cc)
-
 pub flagged_some : (kind : Kind) (flag : ℕ) (o : Option Chunk) (c : FlaggedChunk) → with_flag kind flag o ≡ Some c → o ≡ Some c.chunk
 flagged_some kind flag None c h = absurd (cc)
 flagged_some kind flag (Some chunk) c h =

@@ -25,7 +25,7 @@ use Rattle.ua_conn.specs.server.Ranges.{known_of, running_of}
 use Rattle.ua_conn.specs.server.Opening.{asked_rows, Grants}
 use Rattle.ua_conn.specs.server.Effects.{Acts, hello_effect, open_effect, open_by}
 use Rattle.ua_conn.specs.declared.server.connection.opening.Granted.{Granted}
-use Rattle.ua_conn.proofs.ServerEnd.TableLemmas.{join_none, join_some}
+use Rattle.ua_conn.proofs.TableLemmas.{join_none}
 use Rattle.ua_conn.proofs.ServerEnd.ReplyLemmas.{one_acknowledge, one_opened}
 
 abbrev gains : List ℕ → List Request → Gained
@@ -109,22 +109,3 @@ open_acts settings id agreed channel heard new half next now o opening granted o
     subst (λ x. Acts (open_effect site k now x) (running_of settings id agreed channel half next) (running_of settings id agreed new half (number_after next 1)) (gains out asked) (gains said asked)) (sym layout)
     (opened_by_token settings id agreed channel new half next now opening (open_of opening.body) granted out said asked fine
     (subst (λ h. Grants h new now (open_of opening.body) granted) numbered_is grants) w)
-
--- refused by its channel, or inside a message
-pub open_refused : (site : Site) (k : Known) (c : Channel) (o : Option OpenChunk) (opening : OpenChunk) (status : ℕ) → c ≡ channel_of site k → o ≡ Some opening →
-    first_row (admit_open_rows c opening ++ (is_some k.half, 0x807E0000) ∷ []) ≡ Some status → first_row (open_rows site k o) ≡ Some status
-open_refused site k c o opening status e layout h =
-    ap (λ o. first_row (open_rows site k o)) layout
-    ∙ join_some (admit_open_rows (channel_of site k) opening ++ (is_some k.half, 0x807E0000) ∷ []) (request_rows site k (open_of opening.body)) status
-    (ap (λ c. first_row (admit_open_rows c opening ++ (is_some k.half, 0x807E0000) ∷ [])) (sym e) ∙ h)
-
--- its request is refused
-pub asked_refused : (site : Site) (k : Known) (c heard : Channel) (o : Option OpenChunk) (opening : OpenChunk) (status : ℕ) → c ≡ channel_of site k → o ≡ Some opening →
-    first_row (admit_open_rows c opening ++ (is_some k.half, 0x807E0000) ∷ []) ≡ None → heard ≡ numbered c opening.sequence →
-    first_row (asked_rows heard (open_of opening.body)) ≡ Some status → first_row (open_rows site k o) ≡ Some status
-asked_refused site k c heard o opening status e layout admitted n h =
-    ap (λ o. first_row (open_rows site k o)) layout
-    ∙ open_rows_are site k c opening e admitted
-    ∙ sym (asked_same site k c opening.sequence (open_of opening.body) e)
-    ∙ ap (λ c. first_row (asked_rows c (open_of opening.body))) (sym n)
-    ∙ h

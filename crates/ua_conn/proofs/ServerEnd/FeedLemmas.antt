@@ -1,13 +1,13 @@
 -- Frames taken one after another from bytes that came at one moment.
 use Rattle.std.proofs.Common.{◌≡◌, ℕ, ◌+◌, ◌≤◌, Bool, true, false, cond, ◌&&◌, ◌==◌, nat_le, List, [], ◌∷◌, ◌++◌, map, take, drop, length, Option, Some, None, refl, sym, ap, subst, ◌∙◌, append_assoc, arith, ◌⊎◌, inl, inr}
-use Rattle.std.proofs.lemmas.List.{append-nil, length-take, length-take-le, length-drop, drop-drop}
+use Rattle.std.proofs.lemmas.List.{append-nil, length-take-le}
 use Rattle.std.proofs.lemmas.Bool.{leb-true, leb-false}
 use Rattle.ua_frame.specs.Streams.{at, plain, size_of, rest_of}
 use Rattle.ua_frame.specs.StreamLaws.{front_is_frame, frame_size}
 use Rattle.ua_frame.specs.Layout.{Frame, frames_of, kind_of, flag_of}
 use Rattle.ua_frame.specs.MomentLaws.{at_once_step, at_once_stop}
 use Rattle.ua_frame.specs.Rows.{first_row, or_else}
-use Rattle.ua_frame.specs.HeaderLaws.{header_fault_take}
+use Rattle.ua_frame.specs.HeaderLaws.{header_fault_take, header_fault_stays}
 use Rattle.ua_frame.specs.Hello.{error_frame}
 use Rattle.ua_frame.specs.declared.kind.Kind.{Kind}
 use Rattle.ua_frame.specs.declared.kind.Kind.TheVariants as kinds
@@ -19,10 +19,11 @@ use Rattle.ua_conn.specs.server.Faults.{fault_at, fault_in_rest, greatest_frame,
 use Rattle.ua_conn.specs.server.Replies.{Reply, Failed, ended, failing, reply_by, reply_to, to_list, handed_at, spelled}
 use Rattle.ua_conn.specs.server.Held.{stop}
 use Rattle.ua_conn.specs.server.Machine.{Run, run, run_on, behind, known_after, number_then, spelled_next, next_after}
-use Rattle.ua_conn.specs.server.Taking.{Running, Gained, Stands}
+use Rattle.ua_conn.specs.server.Taking.{Running, Gained, Stands, Closes}
 use Rattle.ua_conn.specs.server.Feeding.{BeginsFrame, BeginsNoFrame, first_frame, IsRefused, by_header, by_frame, Steps, brought, Hears, HearsPart, Hearing}
 use Rattle.ua_conn.specs.declared.server.hearing.Step.TheVariants as steps
 use Rattle.ua_conn.specs.declared.outcome.End.TheVariants.{Closed, Refused}
+use Rattle.ua_conn.proofs.BufferedLemmas.{begins_further, same_first, same_size, left_behind, pushed_first}
 
 -- ---- what is spelled one after another
 
@@ -149,11 +150,29 @@ run_refuses site k now bytes status (by_header e) =
       | inr none ↦ run_waits site k now bytes none ∙ (λ i. record { replies = failing (ended (e i) bytes); asked = []; ending = ended (e i) bytes; known = k })
     ]
 
+-- ---- more of a piece behind the bytes of the buffer
+
+goes_on_further : (old new : Running) (now : ℕ) (front more : List ℕ) (had has : Gained) → Steps old new now front had has steps.GoesOn → Steps old new now (front ++ more) had has steps.GoesOn
+goes_on_further old new now front more had has s =
+    let n = size_of front in
+    let size : size_of (front ++ more) ≡ n = same_size n front more s.0 in (
+      subst (λ z. BeginsFrame z (front ++ more)) (sym size) (begins_further n front more s.0),
+      subst (λ (f : Frame). Stands old new f had has) (sym ((λ i. first_frame now (size i) (front ++ more)) ∙ same_first now n front more s.0)) s.1,
+    )
+
+closes_further : (old new : Running) (now : ℕ) (front more : List ℕ) (had has : Gained) → Steps old new now front had has steps.Closed → Steps old new now (front ++ more) had has steps.Closed
+closes_further old new now front more had has s =
+    (s.0, begins_further s.0 front more s.1, subst (λ (f : Frame). Closes old f had has) (sym (same_first now s.0 front more s.1)) s.2)
+
+refused_further : (site : Site) (k : Known) (now : ℕ) (front more : List ℕ) (status : ℕ) → IsRefused site k now front status → IsRefused site k now (front ++ more) status
+unfolding fault_in_rest
+refused_further site k now front more status (by_header e) = by_header (header_fault_stays (greatest_frame k.limits) front more status e)
+refused_further site k now front more status (by_frame n h e) = by_frame n (begins_further n front more h) (ap (fault_at site k) (same_first now n front more h) ∙ e)
+
 -- ---- the loop
 
-pub starts : (old : Running) (now : ℕ) (bytes : List ℕ) (had : Gained) → Hearing old old now bytes had had 0
+starts : (old : Running) (now : ℕ) (bytes : List ℕ) (had : Gained) → Hearing old old now bytes had had bytes
 starts old now bytes had = record {
-  within = omega arith;
   said = [];
   hands = [];
   brings = refl;
@@ -167,15 +186,18 @@ starts old now bytes had = record {
   rest = refl;
 }
 
+pub starts_with : (old : Running) (now : ℕ) (had : Gained) (front piece new : List ℕ) (k : ℕ) → new ≡ front ++ take k piece → Hearing old old now (front ++ piece) had had (new ++ drop k piece)
+starts_with old now had front piece new k e =
+    subst (λ l. Hearing old old now (front ++ piece) had had l) (sym (ap (λ l. l ++ drop k piece) e ∙ pushed_first k front piece)) (starts old now (front ++ piece) had)
+
 quiet : (o : Option ℕ) (bytes : List ℕ) → o ≡ None → (failing (ended o bytes) ≡ []) × (stop (ended o bytes) ≡ None)
 quiet None [] h = (refl, refl)
 quiet None (b ∷ bytes) h = (refl, refl)
 quiet (Some status) bytes h = absurd (cc)
 
-still : {old new : Running} {now : ℕ} {bytes : List ℕ} {had has : Gained} {used : ℕ} →
-    Hearing old new now bytes had has used → BeginsNoFrame (drop used bytes) → fault_in_rest new.known (drop used bytes) ≡ None → Hears old new now bytes had has used None
-still {old} {new} {now} {bytes} {had} {has} {used} h none fine =
-    let left = drop used bytes in
+still : {old new : Running} {now : ℕ} {bytes : List ℕ} {had has : Gained} {left : List ℕ} →
+    Hearing old new now bytes had has left → BeginsNoFrame left → fault_in_rest new.known left ≡ None → Hears old new now bytes had has left None
+still {old} {new} {now} {bytes} {had} {has} {left} h none fine =
     let r : brought new now left ≡ run new.site new.known [] left = run_waits new.site new.known now left none in
     let q = quiet (fault_in_rest new.known left) left fine in
     let all : (brought old now bytes).replies ≡ h.said = h.brings ∙ (λ i. h.said ++ (r i).replies) ∙ ap (λ rs. h.said ++ rs) q.0 ∙ append-nil h.said in
@@ -190,15 +212,26 @@ still {old} {new} {now} {bytes} {had} {has} {used} h none fine =
       rest = λ _. sym (h.rest ∙ (at_once_stop now left none).1);
     }
 
-pub waits : {old new new2 : Running} {now : ℕ} {bytes : List ℕ} {had has has2 : Gained} {used : ℕ} →
-    Hearing old new now bytes had has used → Steps new new2 now (drop used bytes) has has2 steps.Waits → Hears old new2 now bytes had has2 used None
-waits {old} {new} {new2} {now} {bytes} {had} {has} {has2} {used} h s =
-    subst (λ (o : Running). Hears old o now bytes had has2 used None) (sym s.2) (subst (λ (g : Gained). Hears old new now bytes had g used None) (sym s.3) (still h s.0 s.1))
+waits : {old new new2 : Running} {now : ℕ} {bytes : List ℕ} {had has has2 : Gained} {left : List ℕ} →
+    Hearing old new now bytes had has left → Steps new new2 now left has has2 steps.Waits → Hears old new2 now bytes had has2 left None
+waits {old} {new} {new2} {now} {bytes} {had} {has} {has2} {left} h s =
+    subst (λ (o : Running). Hears old o now bytes had has2 left None) (sym s.2) (subst (λ (g : Gained). Hears old new now bytes had g left None) (sym s.3) (still h s.0 s.1))
 
-pub closes : {old new new2 : Running} {now : ℕ} {bytes : List ℕ} {had has has2 : Gained} {used : ℕ} →
-    Hearing old new now bytes had has used → Steps new new2 now (drop used bytes) has has2 steps.Closed → Hears old new2 now bytes had has2 used (Some Closed)
-closes {old} {new} {new2} {now} {bytes} {had} {has} {has2} {used} h s =
-    let r = run_closes new.site new.known now s.0 (drop used bytes) s.1 s.2.fine s.2.close in
+pub waits_whole : {old new new2 : Running} {now : ℕ} {bytes : List ℕ} {had has has2 : Gained} {front left : List ℕ} →
+    Hearing old new now bytes had has left → left ≡ front → Steps new new2 now front has has2 steps.Waits → Hears old new2 now bytes had has2 front None
+waits_whole {old} {new} {new2} {now} {bytes} {had} {has} {has2} {front} {left} h e s = waits (subst (λ l. Hearing old new now bytes had has l) e h) s
+
+-- where there is more to read, and it is read
+pub reads_on : {old new new2 : Running} {now : ℕ} {bytes : List ℕ} {had has has2 : Gained} {front left : List ℕ} →
+    Hearing old new now bytes had has left → Steps new new2 now front has has2 steps.Waits → (left2 : List ℕ) → left2 ≡ left → Hearing old new2 now bytes had has2 left2
+reads_on {old} {new} {new2} {now} {bytes} {had} {has} {has2} {front} {left} h s left2 e =
+    subst (λ (o : Running). Hearing old o now bytes had has2 left2) (sym s.2) (subst (λ (g : Gained). Hearing old new now bytes had g left2) (sym s.3) (subst (λ l. Hearing old new now bytes had has l) (sym e) h))
+
+pub closes : {old new new2 : Running} {now : ℕ} {bytes : List ℕ} {had has has2 : Gained} {front left : List ℕ} (more : List ℕ) →
+    Hearing old new now bytes had has (front ++ more) → Steps new new2 now front has has2 steps.Closed → Hears old new2 now bytes had has2 left (Some Closed)
+closes {old} {new} {new2} {now} {bytes} {had} {has} {has2} {front} {left} more h at_front =
+    let s = closes_further new new2 now front more has has2 at_front in
+    let r = run_closes new.site new.known now s.0 (front ++ more) s.1 s.2.fine s.2.close in
     let all : (brought old now bytes).replies ≡ h.said = h.brings ∙ (λ i. h.said ++ (r i).replies) ∙ append-nil h.said in
     let asks : (brought old now bytes).asked ≡ h.hands = h.asks ∙ (λ i. h.hands ++ (r i).asked) ∙ append-nil h.hands in
     record {
@@ -211,12 +244,12 @@ closes {old} {new} {new2} {now} {bytes} {had} {has} {has2} {used} h s =
       rest = λ n. absurd (cc);
     }
 
-pub refuses : {old new new2 : Running} {now : ℕ} {bytes : List ℕ} {had has has2 : Gained} {used status : ℕ} {out : List ℕ} →
-    Hearing old new now bytes had has used → Steps new new2 now (drop used bytes) has has2 (steps.Refused status) → out ≡ has2.bytes ++ error_frame (record { status = status; reason = None }) →
-    Hears old new2 now bytes had (record { bytes = out; asked = has2.asked }) used (Some (Refused status))
-refuses {old} {new} {new2} {now} {bytes} {had} {has} {has2} {used} {status} {out} h s e =
+pub refuses : {old new new2 : Running} {now : ℕ} {bytes : List ℕ} {had has has2 : Gained} {front left : List ℕ} {status : ℕ} {out : List ℕ} (more : List ℕ) →
+    Hearing old new now bytes had has (front ++ more) → Steps new new2 now front has has2 (steps.Refused status) → out ≡ has2.bytes ++ error_frame (record { status = status; reason = None }) →
+    Hears old new2 now bytes had (record { bytes = out; asked = has2.asked }) left (Some (Refused status))
+refuses {old} {new} {new2} {now} {bytes} {had} {has} {has2} {front} {left} {status} {out} more h s e =
     let one : List Reply = Failed status ∷ [] in
-    let r = run_refuses new.site new.known now (drop used bytes) status s.0 in
+    let r = run_refuses new.site new.known now (front ++ more) status (refused_further new.site new.known now front more status s.0) in
     let all : (brought old now bytes).replies ≡ h.said ++ one = h.brings ∙ (λ i. h.said ++ (r i).replies) in
     let asks : (brought old now bytes).asked ≡ h.hands = h.asks ∙ (λ i. h.hands ++ (r i).asked) ∙ append-nil h.hands in
     let written : out ≡ has.bytes ++ spelled_next old.site (next_after old.next h.said) one =
@@ -231,18 +264,16 @@ refuses {old} {new} {new2} {now} {bytes} {had} {has} {has2} {used} {status} {out
       rest = λ n. absurd (cc);
     }
 
-pub goes_on : {old new new2 : Running} {now : ℕ} {bytes : List ℕ} {had has has2 : Gained} {used n : ℕ} →
-    Hearing old new now bytes had has used → Steps new new2 now (drop used bytes) has has2 (steps.GoesOn n) → Hearing old new2 now bytes had has2 (used + n)
-goes_on {old} {new} {new2} {now} {bytes} {had} {has} {has2} {used} {n} h s =
-    let left = drop used bytes in
+goes_on_at : {old new new2 : Running} {now : ℕ} {bytes : List ℕ} {had has has2 : Gained} {left : List ℕ} →
+    Hearing old new now bytes had has left → Steps new new2 now left has has2 steps.GoesOn → Hearing old new2 now bytes had has2 (drop (size_of left) left)
+goes_on_at {old} {new} {new2} {now} {bytes} {had} {has} {has2} {left} h s =
+    let n = size_of left in
     let f = first_frame now n left in
     let rs = reply_to new.site new.known f in
     let qs = handed_at new.known f in
-    let there : drop n left ≡ drop (used + n) bytes = drop-drop n used bytes in
-    let next = brought new2 now (drop (used + n) bytes) in
-    let r : brought new now left ≡ behind rs qs next = run_stands new new2 now n left has has2 s.0 s.1 ∙ (λ i. behind rs qs (brought new2 now (there i))) in
+    let next = brought new2 now (drop n left) in
+    let r : brought new now left ≡ behind rs qs next = run_stands new new2 now n left has has2 s.0 s.1 in
     record {
-      within = omega (arith, h.within, s.0.within, length-drop used bytes);
       said = h.said ++ rs;
       hands = h.hands ++ qs;
       brings = h.brings ∙ (λ i. h.said ++ (r i).replies) ∙ sym (append_assoc h.said rs next.replies);
@@ -254,21 +285,27 @@ goes_on {old} {new} {new2} {now} {bytes} {had} {has} {has2} {used} {n} h s =
       site = s.1.site ∙ h.site;
       known = h.known ∙ (λ i. (r i).known);
       number = s.1.number ∙ ap (λ k. next_after k rs) h.number ∙ sym (next_append old.next h.said rs);
-      rest = h.rest ∙ ap plain (at_once_step now left n s.0.within s.0.frame).1 ∙ (λ i. plain (rest_of (map (at now) (there i))));
+      rest = h.rest ∙ ap plain (at_once_step now left n s.0.within s.0.frame).1;
     }
 
+pub goes_on : {old new new2 : Running} {now : ℕ} {bytes : List ℕ} {had has has2 : Gained} {front : List ℕ} (more : List ℕ) →
+    Hearing old new now bytes had has (front ++ more) → Steps new new2 now front has has2 steps.GoesOn → Hearing old new2 now bytes had has2 (drop (size_of front) front ++ more)
+goes_on {old} {new} {new2} {now} {bytes} {had} {has} {has2} {front} more h s =
+    let n = size_of front in
+    let there : drop (size_of (front ++ more)) (front ++ more) ≡ drop n front ++ more =
+    (λ i. drop (same_size n front more s.0 i) (front ++ more)) ∙ left_behind n front more s.0 in
+    subst (λ l. Hearing old new2 now bytes had has2 l) there (goes_on_at h (goes_on_further new new2 now front more has has2 s))
+
 -- what stands in the output where memory ran out
-pub part : {old new : Running} {now : ℕ} {bytes : List ℕ} {had has : Gained} {used : ℕ} {out : List ℕ} →
-    Hearing old new now bytes had has used → out ≡ has.bytes → HearsPart old now bytes had.bytes out
+pub part : {old new : Running} {now : ℕ} {bytes : List ℕ} {had has : Gained} {left : List ℕ} {out : List ℕ} →
+    Hearing old new now bytes had has left → out ≡ has.bytes → HearsPart old now bytes had.bytes out
 part h e = record { said = h.said; left = _; begins = h.brings; added = e ∙ h.added }
 
 -- and where the error could not be written
-pub part_refused : {old new : Running} {now : ℕ} {bytes : List ℕ} {had has : Gained} (new2 : Running) {has2 : Gained} {used status : ℕ} {out : List ℕ} →
-    Hearing old new now bytes had has used → Steps new new2 now (drop used bytes) has has2 (steps.Refused status) → out ≡ has2.bytes → HearsPart old now bytes had.bytes out
+pub part_refused : {old new : Running} {now : ℕ} {bytes : List ℕ} {had has : Gained} (new2 : Running) {has2 : Gained} {front left : List ℕ} {status : ℕ} {out : List ℕ} →
+    Hearing old new now bytes had has left → Steps new new2 now front has has2 (steps.Refused status) → out ≡ has2.bytes → HearsPart old now bytes had.bytes out
 part_refused new2 h s e = part h (e ∙ ap (λ (g : Gained). g.bytes) s.1)
 
 -- each frame has bytes
-pub falls : (old new : Running) (now : ℕ) (bytes : List ℕ) (had has : Gained) (used n : ℕ) →
-    used ≤ length bytes → Steps old new now (drop used bytes) had has (steps.GoesOn n) → (8 ≤ n) × (used + n ≤ length bytes)
-falls old new now bytes had has used n h s =
-    (omega (arith, s.0.frame.header, length-take n (drop used bytes)), omega (arith, h, s.0.within, length-drop used bytes))
+pub falls : (old new : Running) (now : ℕ) (front : List ℕ) (had has : Gained) → Steps old new now front had has steps.GoesOn → (8 ≤ size_of front) × (size_of front ≤ length front)
+falls old new now front had has s = (omega (arith, s.0.frame.header, length-take-le (size_of front) front s.0.within), s.0.within)

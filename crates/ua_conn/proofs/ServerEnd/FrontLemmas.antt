@@ -1,8 +1,8 @@
 -- What stands at the front of some bytes, as it was found there.
-use Rattle.std.proofs.Common.{◌≡◌, ℕ, ◌+◌, ◌≤◌, List, length, take, Some, None, sym, subst, ◌∙◌, arith}
+use Rattle.std.proofs.Common.{◌≡◌, ℕ, ◌≤◌, List, length, take, Some, None, ◌∙◌, arith}
+use Rattle.std.proofs.lemmas.List.{length-take-le}
 use Rattle.ua_frame.specs.Streams.{size_of}
 use Rattle.ua_frame.specs.Layout.{Parts, IsFrameOf}
-use Rattle.ua_frame.specs.LayoutLaws.{Front, front}
 use Rattle.ua_frame.specs.HeaderRows.{header_fault}
 use Rattle.ua_frame.specs.HeaderLaws.{header_fault_take}
 use Rattle.ua_conn.specs.server.Site.{Site}
@@ -30,25 +30,18 @@ TakesAny old new now f had has t =
 -- is said of the one at the front
 taken_front : (old new : Running) (now : ℕ) (bytes : List ℕ) (f : Parts) (had has : Gained) (t : Taken) → size_of bytes ≤ length bytes → IsFrameOf (take (size_of bytes) bytes) f →
     header_fault (greatest_frame old.known.limits) bytes ≡ None → TakesAny old new now f had has t →
-    BeginsFrame (8 + length f.fields) bytes × Takes old new (first_frame now (8 + length f.fields) bytes) had has t
+    BeginsFrame (size_of bytes) bytes × Takes old new (first_frame now (size_of bytes) bytes) had has t
 taken_front old new now bytes f had has t within is h all =
-    let z = 8 + length f.fields in
-    let at : Front bytes f = front bytes f within is in (
-      record { within = at.within; frame = at.frame.there },
-      all (take z bytes) at.frame (header_fault_take (greatest_frame old.known.limits) z bytes (omega arith) ∙ h),
+    let z = size_of bytes in (
+      record { within = within; frame = is.there },
+      all (take z bytes) is (header_fault_take (greatest_frame old.known.limits) z bytes (omega (arith, is.there.header, length-take-le z bytes within)) ∙ h),
     )
 
-pub front_goes_on : (old new : Running) (now len : ℕ) (bytes : List ℕ) (f : Parts) (had has : Gained) → len ≡ length f.fields → size_of bytes ≤ length bytes → IsFrameOf (take (size_of bytes) bytes) f →
-    header_fault (greatest_frame old.known.limits) bytes ≡ None → TakesAny old new now f had has taken.GoesOn → Steps old new now bytes had has (steps.GoesOn (8 + len))
-front_goes_on old new now len bytes f had has e within is h all =
-    subst (λ (n : ℕ). Steps old new now bytes had has (steps.GoesOn (8 + n))) (sym e) (taken_front old new now bytes f had has taken.GoesOn within is h all)
-
-pub front_closes : (old new : Running) (now : ℕ) (bytes : List ℕ) (f : Parts) (had has : Gained) → size_of bytes ≤ length bytes → IsFrameOf (take (size_of bytes) bytes) f →
-    header_fault (greatest_frame old.known.limits) bytes ≡ None → TakesAny old new now f had has taken.Closed → Steps old new now bytes had has steps.Closed
-front_closes old new now bytes f had has within is h all =
-    let at = taken_front old new now bytes f had has taken.Closed within is h all in (8 + length f.fields, at.0, at.1)
+pub front_goes_on : (old new : Running) (now : ℕ) (bytes : List ℕ) (f : Parts) (had has : Gained) → size_of bytes ≤ length bytes → IsFrameOf (take (size_of bytes) bytes) f →
+    header_fault (greatest_frame old.known.limits) bytes ≡ None → TakesAny old new now f had has taken.GoesOn → Steps old new now bytes had has steps.GoesOn
+front_goes_on old new now bytes f had has within is h all = taken_front old new now bytes f had has taken.GoesOn within is h all
 
 pub front_refused : (old new : Running) (now : ℕ) (bytes : List ℕ) (f : Parts) (status : ℕ) (had has : Gained) → size_of bytes ≤ length bytes → IsFrameOf (take (size_of bytes) bytes) f →
     header_fault (greatest_frame old.known.limits) bytes ≡ None → TakesAny old new now f had has (taken.Refused status) → Steps old new now bytes had has (steps.Refused status)
 front_refused old new now bytes f status had has within is h all =
-    let at = taken_front old new now bytes f had has (taken.Refused status) within is h all in (by_frame (8 + length f.fields) at.0 at.1.fault, at.1.unchanged)
+    let at = taken_front old new now bytes f had has (taken.Refused status) within is h all in (by_frame (size_of bytes) at.0 at.1.fault, at.1.unchanged)

@@ -2,7 +2,7 @@
 use Rattle.std.proofs.Common.{◌≡◌, ℕ, ◌+◌, ◌≤◌, Bool, true, false, cond, not, ◌||◌, ◌==◌, List, [], ◌∷◌, ◌++◌, length, Option, Some, None, is_some, refl, sym, ap, subst, ◌∙◌, arith, append_assoc, ◌⊎◌, inl, inr}
 use Rattle.std.proofs.lemmas.List.{append-nil, length-append}
 use Rattle.std.proofs.lemmas.List.Concat.{flat_map-append}
-use Rattle.std.proofs.lemmas.Bool.{eqb-true}
+use Rattle.std.proofs.lemmas.Bool.{eqb-true, not-false}
 use Rattle.ua_frame.specs.Layout.{Frame, kind_of, flag_of}
 use Rattle.ua_frame.specs.declared.kind.Kind.{Kind}
 use Rattle.ua_frame.specs.declared.kind.Kind.TheVariants as kinds
@@ -12,9 +12,9 @@ use Rattle.ua_conn.specs.server.Site.{Site}
 use Rattle.ua_conn.specs.Past.{Past, Known, known, has_number, is_close, carried}
 use Rattle.ua_conn.specs.server.Held.{newest_first}
 use Rattle.ua_conn.specs.server.Legal.{joined_body, IsChunk, IsOpening, AreParts, FitTheLimits, Turn, Renewal, Message, Dropped, turn_frames, IsTurn, AreTurns, all_frames, Tail, NoTail, Close, tail_frames, IsTail, CanDrop}
-use Rattle.ua_conn.proofs.ServerEnd.RowLemmas.{Fine, AreFine, tells, yes, Admits, Part, part_tells, close_tells, OpenAt, open_tells}
+use Rattle.ua_conn.proofs.ServerEnd.RowLemmas.{Fine, AreFine, tells, Admits, Part, part_tells, close_tells, OpenAt, open_tells}
 use Rattle.ua_conn.proofs.ServerEnd.AbortLemmas.{can_drop}
-use Rattle.ua_conn.proofs.ServerEnd.ReadyLemmas.{half_of, Ready, newest_last, half_bodies, half_counts, allowed_ready, part_ready, last_ready, opn_ready}
+use Rattle.ua_conn.proofs.ServerEnd.ReadyLemmas.{half_of, Ready, newest_last, half_bodies, half_counts, allowed_ready, part_ready, last_ready, opn_ready, newest_append}
 use Rattle.ua_service.specs.ChannelMessages.{close_of}
 use Rattle.ua_service.specs.Requests.{request_of}
 
@@ -91,12 +91,8 @@ turn_then site past t fs h g = record {
   tail = g.tail;
   frames = append_assoc (turn_frames t) fs g.more ∙ ap (λ l. turn_frames t ++ l) g.frames ∙ sym (append_assoc (turn_frames t) (all_frames g.turns) (tail_frames g.tail));
   turns_are = (h, g.turns_are);
-  tail_is = subst (λ p. IsTail site p g.tail) (sym (newest_two (turn_frames t) (all_frames g.turns) past)) g.tail_is;
+  tail_is = subst (λ p. IsTail site p g.tail) (sym (newest_append (turn_frames t) (all_frames g.turns) past)) g.tail_is;
 }
-  where
-    newest_two : (xs ys : List Frame) (past : Past) → newest_first (xs ++ ys) past ≡ newest_first ys (newest_first xs past)
-    newest_two [] ys past = refl
-    newest_two (x ∷ xs) ys past = newest_two xs ys (x ∷ past)
 
 -- a CLO came
 close_here : (site : Site) (past : Past) (parts : List Frame) (id : ℕ) (f : Frame) → At site past parts id → IsChunk site (newest_first parts past) kinds.Close 70 f → is_some (close_of (carried f).body) ≡ true → Grown site past (parts ++ f ∷ [])
@@ -178,7 +174,7 @@ build_msg : (site : Site) → (fs : List Frame) → Build site fs → (past : Pa
     Fine site (known site (newest_first parts past)) f → AreFine site (f ∷ newest_first parts past) fs → Grown site past (parts ++ f ∷ fs)
 build_msg site fs rec past parts id f at kind h rest =
     let k = known site (newest_first parts past) in
-    elim (flags (flag_of f.bytes) (yes _ (tells site k f (Some kinds.Message) (flag_of f.bytes) kind refl h).1.0)) [
+    elim (flags (flag_of f.bytes) (not-false _ (tells site k f (Some kinds.Message) (flag_of f.bytes) kind refl h).1.0)) [
       | inl q ↦ build_part site fs rec past parts id f at kind q (part_tells site k f 67 h.whole (tells site k f (Some kinds.Message) 67 kind q h)) rest
       | inr (inl q) ↦ build_last site fs rec past parts id f at kind q (part_tells site k f 70 h.whole (tells site k f (Some kinds.Message) 70 kind q h)) rest
       | inr (inr q) ↦ build_abort site fs rec past parts id f at kind q (part_tells site k f 65 h.whole (tells site k f (Some kinds.Message) 65 kind q h)) rest
@@ -209,7 +205,7 @@ build_opn site fs rec past parts id f at kind h rest =
     let o = open_tells site k f (flag_of f.bytes) h.whole all in
     let none : parts ≡ [] = no_parts id parts (ap is_some (sym at.ready.half) ∙ o.half) in
     let P : List Frame → Type 0 = λ ps. Ready (known site (newest_first ps past)) (half_of id ps) → OpenAt site (known site (newest_first ps past)) f → AreFine site (f ∷ newest_first ps past) fs → Grown site past (ps ++ f ∷ fs) in
-    let at_none : P [] = λ r o rest. turn_then site past (Renewal f) fs (opening_by site past f kind (eqb-true _ _ (yes _ all.1.0)) r.tokens o)
+    let at_none : P [] = λ r o rest. turn_then site past (Renewal f) fs (opening_by site past f kind (eqb-true _ _ (not-false _ all.1.0)) r.tokens o)
     (rec (f ∷ past) [] 0 (start_at site (f ∷ past) (opn_ready site past f kind r.limits r.room r.half)) rest) in
     subst P (sym none) at_none at.ready o rest
 
@@ -220,10 +216,10 @@ build_clo site fs past parts id f at kind h e =
     let all = tells site k f (Some kinds.Close) (flag_of f.bytes) kind refl h in
     let c = close_tells site k f (flag_of f.bytes) h.whole all in
     subst (λ l. Grown site past (parts ++ f ∷ l)) (sym e)
-    (close_here site past parts id f at (chunk_by site (newest_first parts past) kinds.Close 70 f kind (eqb-true _ _ (yes _ all.1.0)) c.admits) c.close)
+    (close_here site past parts id f at (chunk_by site (newest_first parts past) kinds.Close 70 f kind (eqb-true _ _ (not-false _ all.1.0)) c.admits) c.close)
 
 has_no_number : (site : Site) (k : Known) (h : Option Half) (f : Frame) (kind : Option Kind) → Ready k h → kind_of f.bytes ≡ kind → Fine site k f → has_number kind ≡ true
-has_no_number site k h f kind r e n = sym (allowed_ready k h kind r) ∙ yes _ (tells site k f kind (flag_of f.bytes) e refl n).1.1.1.1.0
+has_no_number site k h f kind r e n = sym (allowed_ready k h kind r) ∙ not-false _ (tells site k f kind (flag_of f.bytes) e refl n).1.1.1.1.0
 
 by_kind : (site : Site) → (fs : List Frame) → Build site fs → (past : Past) (parts : List Frame) (id : ℕ) (f : Frame) → At site past parts id → (kind : Option Kind) → kind_of f.bytes ≡ kind →
     Fine site (known site (newest_first parts past)) f → (is_close (kind_of f.bytes) ≡ true → fs ≡ []) → AreFine site (f ∷ newest_first parts past) fs → Grown site past (parts ++ f ∷ fs)

@@ -1,8 +1,8 @@
 -- No row of the table holds in a list exactly where it is a beginning of a legal one.
-use Rattle.std.proofs.Common.{◌≡◌, ℕ, ◌+◌, ◌≤◌, true, false, cond, ◌||◌, ◌==◌, List, [], ◌∷◌, ◌++◌, length, Option, Some, None, is_some, is_none, refl, sym, ap, subst, ◌∙◌, arith, append_assoc}
+use Rattle.std.proofs.Common.{◌≡◌, ℕ, ◌+◌, ◌≤◌, Bool, true, false, cond, ◌||◌, ◌==◌, List, [], ◌∷◌, ◌++◌, length, Option, Some, None, is_some, is_none, refl, sym, ap, subst, ◌∙◌, arith, append_assoc}
 use Rattle.std.proofs.lemmas.List.{append-nil, length-append}
 use Rattle.std.proofs.lemmas.List.Concat.{flat_map-append}
-use Rattle.std.proofs.lemmas.Bool.{eqb-true}
+use Rattle.std.proofs.lemmas.Bool.{eqb-true, not-false}
 use Rattle.ua_frame.specs.Layout.{Frame, kind_of, flag_of}
 use Rattle.ua_frame.specs.declared.kind.Kind.{Kind}
 use Rattle.ua_frame.specs.declared.kind.Kind.TheVariants as kinds
@@ -15,30 +15,11 @@ use Rattle.ua_conn.specs.Past.{Past, Known, known, agreed, is_hello, is_open, is
 use Rattle.ua_conn.specs.server.Faults.{is_allowed, greatest_frame}
 use Rattle.ua_conn.specs.server.Held.{newest_first}
 use Rattle.ua_conn.specs.server.Legal.{joined_body, IsChunk, IsOpening, IsHello, AreParts, FitTheLimits, Turn, Renewal, Message, Dropped, turn_frames, IsTurn, AreTurns, IsMessage, IsDropped, all_frames, Tail, NoTail, Close, tail_frames, IsClose, IsTail, IsLegal, IsBeginning, HasRoom, Opens, BeginsLegal}
-use Rattle.ua_conn.proofs.ServerEnd.RowLemmas.{Fine, AreFine, fine_all, faultless_all, tells, fine_by, yes, Admits, Part, part_rows, close_rows_no, OpenAt, open_tells, open_rows_no, HelloAt, hello_tells, hello_rows_no}
-use Rattle.ua_conn.proofs.ServerEnd.ReadyLemmas.{half_of, Ready, newest_last, half_bodies, half_counts, half_ids, allowed_ready, part_ready, last_ready, opn_ready}
+use Rattle.ua_conn.proofs.KindLemmas.{is_hello_tells, is_open_tells}
+use Rattle.ua_conn.proofs.ServerEnd.RowLemmas.{Fine, AreFine, fine_all, faultless_all, tells, fine_by, Admits, Part, part_rows, close_rows_no, OpenAt, open_tells, open_rows_no, HelloAt, hello_tells, hello_rows_no}
+use Rattle.ua_conn.proofs.ServerEnd.ReadyLemmas.{half_of, Ready, newest_last, half_bodies, half_counts, half_ids, allowed_ready, part_ready, last_ready, opn_ready, newest_append}
 use Rattle.ua_conn.proofs.ServerEnd.GrammarLemmas.{build, start_at}
 use Rattle.ua_service.specs.Requests.{request_of}
-
-hel_kind : (kind : Option Kind) → is_hello kind ≡ true → kind ≡ Some kinds.Hello
-hel_kind (Some kinds.Hello) h = refl
-hel_kind (Some kinds.Acknowledge) h = absurd (cc)
-hel_kind (Some kinds.Error) h = absurd (cc)
-hel_kind (Some kinds.ReverseHello) h = absurd (cc)
-hel_kind (Some kinds.Open) h = absurd (cc)
-hel_kind (Some kinds.Message) h = absurd (cc)
-hel_kind (Some kinds.Close) h = absurd (cc)
-hel_kind None h = absurd (cc)
-
-opn_kind : (kind : Option Kind) → is_open kind ≡ true → kind ≡ Some kinds.Open
-opn_kind (Some kinds.Hello) h = absurd (cc)
-opn_kind (Some kinds.Acknowledge) h = absurd (cc)
-opn_kind (Some kinds.Error) h = absurd (cc)
-opn_kind (Some kinds.ReverseHello) h = absurd (cc)
-opn_kind (Some kinds.Open) h = refl
-opn_kind (Some kinds.Message) h = absurd (cc)
-opn_kind (Some kinds.Close) h = absurd (cc)
-opn_kind None h = absurd (cc)
 
 -- before the HEL, and behind it
 at_first : (site : Site) → is_none (known site []).limits ≡ true
@@ -61,10 +42,10 @@ at_second site h hello e q = record {
 hello_from : (site : Site) (h : Frame) → Fine site (known site []) h → IsHello site h
 hello_from site h n =
     let all = tells site (known site []) h (kind_of h.bytes) (flag_of h.bytes) refl refl n in
-    let e : kind_of h.bytes ≡ Some kinds.Hello = hel_kind (kind_of h.bytes) (ap (λ b. cond b (is_hello (kind_of h.bytes)) (cond (length (known site []).tokens == 0) (is_open (kind_of h.bytes)) (has_number (kind_of h.bytes)))) (sym (at_first site)) ∙ yes _ all.1.1.1.1.0) in
+    let e : kind_of h.bytes ≡ Some kinds.Hello = is_hello_tells (kind_of h.bytes) (ap (λ b. cond b (is_hello (kind_of h.bytes)) (cond (length (known site []).tokens == 0) (is_open (kind_of h.bytes)) (has_number (kind_of h.bytes)))) (sym (at_first site)) ∙ not-false _ all.1.1.1.1.0) in
     let all' = tells site (known site []) h (Some kinds.Hello) (flag_of h.bytes) e refl n in
     let p = hello_tells site (known site []) h (flag_of h.bytes) n.whole all' in
-    record { kind = e; flag = eqb-true _ _ (yes _ all'.1.0); size = p.size; hello = p.hello; layout = p.layout; url = p.url; receive = p.receive; send = p.send }
+    record { kind = e; flag = eqb-true _ _ (not-false _ all'.1.0); size = p.size; hello = p.hello; layout = p.layout; url = p.url; receive = p.receive; send = p.send }
 
 opening_from : (site : Site) (h o : Frame) → IsHello site h → Fine site (known site (h ∷ [])) o → IsOpening site (h ∷ []) 0 0 o
 opening_from site h o i n =
@@ -72,12 +53,12 @@ opening_from site h o i n =
     let g = at_second site h i.hello i.kind i.layout in
     let all = tells site k o (kind_of o.bytes) (flag_of o.bytes) refl refl n in
     let allowed : is_allowed k (kind_of o.bytes) ≡ is_open (kind_of o.bytes) = λ j. cond (g.limits j) (is_hello (kind_of o.bytes)) (cond (g.tokens j) (is_open (kind_of o.bytes)) (has_number (kind_of o.bytes))) in
-    let e : kind_of o.bytes ≡ Some kinds.Open = opn_kind (kind_of o.bytes) (sym allowed ∙ yes _ all.1.1.1.1.0) in
+    let e : kind_of o.bytes ≡ Some kinds.Open = is_open_tells (kind_of o.bytes) (sym allowed ∙ not-false _ all.1.1.1.1.0) in
     let all' = tells site k o (Some kinds.Open) (flag_of o.bytes) e refl n in
     let p = open_tells site k o (flag_of o.bytes) n.whole all' in
     record {
       kind = e;
-      flag = eqb-true _ _ (yes _ all'.1.0);
+      flag = eqb-true _ _ (not-false _ all'.1.0);
       size = p.size;
       opening = p.opening;
       layout = p.layout;
@@ -167,32 +148,33 @@ parts_then site past id done (p ∷ ps) ys r h l then =
           (λ r. then (subst (λ d. Ready (known site (newest_first ps (p ∷ past))) (half_of id d)) (sym more) r)),
     )
 
-newest_two : (xs ys : List Frame) (past : Past) → newest_first (xs ++ ys) past ≡ newest_first ys (newest_first xs past)
-newest_two [] ys past = refl
-newest_two (x ∷ xs) ys past = newest_two xs ys (x ∷ past)
-
 fit_front : (site : Site) (parts : List Frame) (f : Frame) → FitTheLimits site (parts ++ f ∷ []) → FitTheLimits site parts
 fit_front site parts f h = (
   omega (arith, h.0, length-append parts (f ∷ [])),
   omega (arith, h.1, ap length (flat_map-append (λ p. (carried p).body) parts (f ∷ [])), length-append (joined_body parts) (joined_body (f ∷ []))),
 )
 
-open_at : (site : Site) (past : Past) (f : Frame) → Ready (known site past) None → IsOpening site past site.channel 1 f → OpenAt site (known site past) f
-open_at site past f r o = record {
+-- an open request as it is awaited: at first to channel 0 and to issue, and later to the channel and to renew
+opening_at : (site : Site) (past : Past) (f : Frame) (first : Bool) → is_allowed (known site past) (Some kinds.Open) ≡ true → (length (known site past).tokens == 0) ≡ first → (known site past).half ≡ None →
+    IsOpening site past (cond first 0 site.channel) (cond first 0 1) f → OpenAt site (known site past) f
+opening_at site past f first allowed tokens half o = record {
   size = o.size;
-  allowed = allowed_by site past None (Some kinds.Open) r refl;
+  allowed = allowed;
   opening = o.opening;
   layout = o.layout;
-  channel_id = o.channel_id ∙ ap (λ b. cond b 0 site.channel) (sym r.tokens);
+  channel_id = o.channel_id ∙ ap (λ b. cond b 0 site.channel) (sym tokens);
   policy = o.policy;
   number = o.number;
-  half = ap is_some r.half;
+  half = ap is_some half;
   request = o.request;
   body = o.body;
-  request_type = o.request_type ∙ ap (λ b. pos (cond b 0 1)) (sym r.tokens);
+  request_type = o.request_type ∙ ap (λ b. pos (cond b 0 1)) (sym tokens);
   mode = o.mode;
   unspent = o.unspent;
 }
+
+open_at : (site : Site) (past : Past) (f : Frame) → Ready (known site past) None → IsOpening site past site.channel 1 f → OpenAt site (known site past) f
+open_at site past f r o = opening_at site past f false (allowed_by site past None (Some kinds.Open) r refl) r.tokens r.half o
 
 last_fine : (site : Site) (past : Past) (id : ℕ) (parts : List Frame) (f : Frame) → Ready (known site (newest_first parts past)) (half_of id parts) → IsMessage site past parts f → id ≡ (carried f).request_id → Fine site (known site (newest_first parts past)) f
 last_fine site past id parts f r m e =
@@ -267,7 +249,7 @@ turns_fine site past [] tail r h k = tail_fine site past tail r k
 turns_fine site past (t ∷ ts) tail r h k =
     subst (AreFine site past) (sym (append_assoc (turn_frames t) (all_frames ts) (tail_frames tail)))
     (turn_first site past t (all_frames ts ++ tail_frames tail) r h.0
-    (λ r. turns_fine site (newest_first (turn_frames t) past) ts tail r h.1 (subst (λ p. IsTail site p tail) (newest_two (turn_frames t) (all_frames ts) past) k)))
+    (λ r. turns_fine site (newest_first (turn_frames t) past) ts tail r h.1 (subst (λ p. IsTail site p tail) (newest_append (turn_frames t) (all_frames ts) past) k)))
 
 hello_at : (site : Site) (f : Frame) → IsHello site f → HelloAt site (known site []) f
 hello_at site f i = record {
@@ -283,21 +265,7 @@ hello_at site f i = record {
 first_open_at : (site : Site) (h o : Frame) → IsHello site h → IsOpening site (h ∷ []) 0 0 o → OpenAt site (known site (h ∷ [])) o
 first_open_at site h f i o =
     let g = at_second site h i.hello i.kind i.layout in
-    record {
-      size = o.size;
-      allowed = λ j. cond (g.limits j) false (cond (g.tokens j) true true);
-      opening = o.opening;
-      layout = o.layout;
-      channel_id = o.channel_id ∙ ap (λ b. cond b 0 site.channel) (sym g.tokens);
-      policy = o.policy;
-      number = o.number;
-      half = ap is_some g.half;
-      request = o.request;
-      body = o.body;
-      request_type = o.request_type ∙ ap (λ b. pos (cond b 0 1)) (sym g.tokens);
-      mode = o.mode;
-      unspent = o.unspent;
-    }
+    opening_at site (h ∷ []) f true (λ j. cond (g.limits j) false (cond (g.tokens j) true true)) g.tokens g.half o
 
 -- a legal list has no fault
 pub legal_fine : (site : Site) → 8192 ≤ site.settings.limits.receive → (fs : List Frame) → IsLegal site fs → AreFine site [] fs

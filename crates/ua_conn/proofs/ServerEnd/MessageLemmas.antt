@@ -1,7 +1,7 @@
 -- What a MSG and a CLO do, put together from the steps that take them.
 use Rattle.std.proofs.Common.{◌≡◌, ℕ, false, cond, ◌&&◌, ◌==◌, List, [], ◌∷◌, ◌++◌, map, length, Option, Some, None, is_none, refl, sym, ap, subst, ◌∙◌}
 use Rattle.std.proofs.lemmas.List.{append-nil}
-use Rattle.ua_frame.specs.Rows.{Row, first_row}
+use Rattle.ua_frame.specs.Rows.{first_row}
 use Rattle.ua_frame.specs.declared.kind.Kind.{Kind}
 use Rattle.ua_chunk.specs.Layout.{Chunk, FlaggedChunk, with_flag}
 use Rattle.ua_chunk.specs.Half.{Half, body_of, part_rows, half_after}
@@ -24,7 +24,7 @@ use Rattle.ua_conn.specs.server.Taking.{Gained}
 use Rattle.ua_conn.specs.server.Ranges.{known_of, running_of, IsBetween}
 use Rattle.ua_conn.specs.server.Parts.{gathered_rows, Gathers, whole_with}
 use Rattle.ua_conn.specs.server.Effects.{Acts, message_effect, close_effect, admitted_rows, heard_in, answers}
-use Rattle.ua_conn.proofs.ServerEnd.TableLemmas.{join_none, join_some}
+use Rattle.ua_conn.proofs.TableLemmas.{join_none}
 use Rattle.ua_conn.proofs.ServerEnd.ReplyLemmas.{answer_frames, answer_next}
 use Rattle.ua_conn.proofs.ServerEnd.EffectLemmas.{channel_is}
 
@@ -77,24 +77,9 @@ close_acts settings id agreed channel new half next now o chunk out asked e ther
   handed = sym (append-nil asked);
 }
 
-pub close_refused : (settings : Configuration) (id : ℕ) (agreed : Option Agreed) (channel : Shown) (half : Option Half) (now : ℕ) (o : Option Chunk) (chunk : Chunk) (status : ℕ) →
-    channel.channel.id ≡ id → o ≡ Some chunk → first_row (admitted_rows channel.channel now o) ≡ None → first_row (close_rows chunk) ≡ Some status →
-    first_row (close_effect (site_of settings id) (known_of agreed channel half) now o).rows ≡ Some status
-close_refused settings id agreed channel half now o chunk status e there admitted h =
-    join_none (admitted_rows (channel_of (site_of settings id) (known_of agreed channel half)) now o) (close_rows (or_empty o)) (admitted_are settings id agreed channel half now o None e admitted)
-    ∙ ap (λ o. first_row (close_rows (or_empty o))) there
-    ∙ h
-
+-- what the rows of the part say counts for the whole table
 -- ---- a MSG
 
--- a part that its channel refuses
-pub heard_refused : (settings : Configuration) (id : ℕ) (agreed : Option Agreed) (channel : Shown) (half : Option Half) (now : ℕ) (o : Option Chunk) (more : List Row) (status : ℕ) →
-    channel.channel.id ≡ id → first_row (admitted_rows channel.channel now o) ≡ Some status →
-    first_row (admitted_rows (channel_of (site_of settings id) (known_of agreed channel half)) now o ++ more) ≡ Some status
-heard_refused settings id agreed channel half now o more status e h =
-    join_some (admitted_rows (channel_of (site_of settings id) (known_of agreed channel half)) now o) more status (admitted_are settings id agreed channel half now o (Some status) e h)
-
--- what the rows of the part say counts for the whole table
 pub message_rows_are : (settings : Configuration) (id : ℕ) (agreed : Option Agreed) (channel : Shown) (g : Gathered) (now flag : ℕ) (o : Option Chunk) (c : FlaggedChunk) (kind : Kind) (v : Option ℕ) →
     channel.channel.id ≡ id → IsBetween settings.limits g → IsChunkOf kind flag o c → first_row (admitted_rows channel.channel now o) ≡ None → first_row (gathered_rows g c) ≡ v →
     first_row (message_effect (site_of settings id) (known_of agreed channel g.half) now flag o).rows ≡ v
@@ -111,17 +96,6 @@ pub record Answers (site : Site) (agreed : Option Agreed) (token id next now : �
   pub number : next' ≡ next_after next (answers site now token id agreed request)
   pub said : has.bytes ≡ had.bytes ++ spelled_next site next (answers site now token id agreed request)
   pub handed : has.asked ≡ had.asked ++ to_list request
-
-no_replies : (site : Site) (agreed : Option Agreed) (token id now : ℕ) → answers site now token id agreed None ≡ []
-no_replies site None token id now = refl
-no_replies site (Some agreed) token id now = refl
-
-pub no_answer : (site : Site) (agreed : Option Agreed) (token id next now : ℕ) (had : Gained) → Answers site agreed token id next now None next had had
-no_answer site agreed token id next now had = record {
-  number = ap (next_after next) (sym (no_replies site agreed token id now));
-  said = sym (append-nil had.bytes) ∙ ap (λ rs. had.bytes ++ spelled_next site next rs) (sym (no_replies site agreed token id now));
-  handed = sym (append-nil had.asked);
-}
 
 -- before a Hello nothing can be said
 pub silent : (site : Site) (token id next now : ℕ) (request : Request) (bytes : List ℕ) (asked asked' : List Request) → asked' ≡ asked ++ request ∷ [] →

@@ -1,8 +1,8 @@
 -- A HEL and an open request that every server takes, whatever its limits.
-use Rattle.std.proofs.Common.{◌≡◌, ℕ, zero, suc, ◌<◌, Bool, true, false, cond, ◌&&◌, nat_lt, List, [], ◌∷◌, Some, None, refl, sym, ap, subst, arith, lit≤, lit<}
+use Rattle.std.proofs.Common.{◌≡◌, ℕ, zero, suc, ◌<◌, Bool, true, cond, ◌&&◌, nat_lt, List, [], ◌∷◌, Some, None, refl, sym, ap, subst, arith, lit≤, lit<}
 use Rattle.std.specs.Prelude.{pos, option_map}
 use Rattle.std.specs.Str.{is_utf8, chars}
-use Rattle.std.proofs.lemmas.Bool.{ltb-true}
+use Rattle.std.proofs.lemmas.Bool.{ltb-true, and_parts}
 use lib.Utf8.{encode}
 use Rattle.ua_value.specs.Format.{IsBytes}
 use Rattle.ua_value.specs.Number.{unsigned, signed}
@@ -35,15 +35,11 @@ all_bytes : List ℕ → Bool
 all_bytes [] = true
 all_bytes (b ∷ bytes) = nat_lt b 256 && all_bytes bytes
 
-both : (a b : Bool) → (a && b) ≡ true → (a ≡ true) × (b ≡ true)
-both true b h = (refl, h)
-both false b h = absurd (cc)
-
 bytes_by : (bytes : List ℕ) → all_bytes bytes ≡ true → IsBytes bytes
 unfolding all_bytes
 bytes_by [] h i = omega arith
-bytes_by (b ∷ bytes) h zero = ltb-true b 256 (both _ _ h).0
-bytes_by (b ∷ bytes) h (suc i) = bytes_by bytes (both (nat_lt b 256) (all_bytes bytes) h).1 i
+bytes_by (b ∷ bytes) h zero = ltb-true b 256 (and_parts _ _ h).0
+bytes_by (b ∷ bytes) h (suc i) = bytes_by bytes (and_parts (nat_lt b 256) (all_bytes bytes) h).1 i
 
 -- ---- the two frames
 

@@ -1,5 +1,5 @@
 -- From the bytes of one more piece to all pieces.
-use Rattle.std.proofs.Common.{◌≡◌, ℕ, max, false, true, List, [], ◌∷◌, ◌++◌, map, drop, Option, Some, None, refl, sym, ap, subst, ◌∙◌}
+use Rattle.std.proofs.Common.{◌≡◌, ℕ, max, false, true, List, [], ◌∷◌, ◌++◌, map, Option, Some, None, refl, sym, ap, subst, ◌∙◌}
 use Rattle.std.proofs.lemmas.List.{append-nil}
 use Rattle.ua_frame.specs.Streams.{Piece, at, plain, timed, latest, rest_of}
 use Rattle.ua_frame.specs.Layout.{frames_of}
@@ -19,13 +19,13 @@ use Rattle.ua_conn.proofs.ServerEnd.RunLemmas.{run_is}
 abbrev pub running : Site → Held → ℕ → Running
 running site h moment = record { site = site; known = h.known; next = h.next; moment = moment }
 
-pub feeds : (site : Site) (h : Held) (x : Piece) (moment : ℕ) (new : Running) (out out' : List ℕ) (asked : List Request) (used : ℕ) (came : Option End) (shown : Shown) →
-    Hears (running site h moment) new (max h.moment x.moment) (h.rest ++ x.bytes) (record { bytes = out; asked = [] }) (record { bytes = out'; asked = asked }) used came →
-    (came ≡ None → shown ≡ record { site = new.site; held = record { known = new.known; next = new.next; moment = max h.moment x.moment; rest = drop used (h.rest ++ x.bytes) }; failed = false }) →
+pub feeds : (site : Site) (h : Held) (x : Piece) (moment : ℕ) (new : Running) (out out' : List ℕ) (asked : List Request) (left : List ℕ) (came : Option End) (shown : Shown) →
+    Hears (running site h moment) new (max h.moment x.moment) (h.rest ++ x.bytes) (record { bytes = out; asked = [] }) (record { bytes = out'; asked = asked }) left came →
+    (came ≡ None → shown ≡ record { site = new.site; held = record { known = new.known; next = new.next; moment = max h.moment x.moment; rest = left }; failed = false }) →
     ((e : End) → came ≡ Some e → shown.failed ≡ true) →
     (ps : List Piece) → GoesOn site ps → held site ps ≡ h → Feeds site ps x out out' asked came shown
 unfolding gain
-feeds site h x moment new out out' asked used came shown r s f ps goes e =
+feeds site h x moment new out out' asked left came shown r s f ps goes e =
     let g : Gains site ps x (gain site h x) = subst (λ k. Gains site ps x (gain site k x)) e (gained site ps x goes) in
     record {
       added = (gain site h x).bytes;
@@ -67,8 +67,3 @@ feeds_part site h x moment out out' part ps goes e = record {
   replied = gained_replies site h x ps goes e;
   part = subst (λ (n : ℕ). SaysPart site n (run_on site h.known (max h.moment x.moment) (h.rest ++ x.bytes)).replies out out') (ap (λ (k : Held). k.next) (sym e)) part;
 }
-
--- where it ran out before a byte was heard
-pub feeds_nothing : (site : Site) (h : Held) (x : Piece) (out : List ℕ) → (ps : List Piece) → GoesOn site ps → held site ps ≡ h → FeedsPart site ps x out out
-feeds_nothing site h x out ps goes e =
-    record { gained = _; replied = gained_replies site h x ps goes e; part = record { said = []; left = _; begins = refl; added = sym (append-nil out) } }

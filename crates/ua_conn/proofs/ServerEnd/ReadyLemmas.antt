@@ -3,6 +3,7 @@ use Rattle.std.proofs.Common.{◌≡◌, ℕ, suc, ◌+◌, ◌≤◌, true, fal
 use Rattle.std.proofs.lemmas.List.{append-nil, length-append}
 use Rattle.std.proofs.lemmas.List.Concat.{flat_map-append}
 use Rattle.std.proofs.lemmas.Bool.Decides.{eqb_tells}
+use Rattle.std.proofs.lemmas.Bool.{eq-eqb}
 use Rattle.ua_frame.specs.Layout.{Frame, kind_of, flag_of}
 use Rattle.ua_frame.specs.declared.kind.Kind.{Kind}
 use Rattle.ua_frame.specs.declared.kind.Kind.TheVariants as kinds
@@ -14,7 +15,6 @@ use Rattle.ua_conn.specs.server.Held.{newest_first}
 use Rattle.ua_conn.specs.server.Legal.{joined_body}
 use Rattle.ua_conn.specs.server.Machine.{known_after, token_after, half_then}
 use Rattle.ua_conn.proofs.ServerEnd.KnownLemmas.{known_step}
-use Rattle.ua_conn.proofs.ServerEnd.RowLemmas.{is_equal}
 
 -- the half received message of these parts
 abbrev pub half_of : ℕ → List Frame → Option Half
@@ -27,9 +27,12 @@ pub record Ready (k : Known) (h : Option Half) : Type 0 where
   pub tokens : (length k.tokens == 0) ≡ false
   pub half : k.half ≡ h
 
+pub newest_append : (xs ys : List Frame) (past : Past) → newest_first (xs ++ ys) past ≡ newest_first ys (newest_first xs past)
+newest_append [] ys past = refl
+newest_append (x ∷ xs) ys past = newest_append xs ys (x ∷ past)
+
 pub newest_last : (parts : List Frame) (f : Frame) (past : Past) → newest_first (parts ++ f ∷ []) past ≡ f ∷ newest_first parts past
-newest_last [] f past = refl
-newest_last (p ∷ ps) f past = newest_last ps f (p ∷ past)
+newest_last parts f past = newest_append parts (f ∷ []) past
 
 pub half_more : (id : ℕ) (parts : List Frame) (p : Frame) → (carried p).request_id ≡ id → Some (with_part (half_of id parts) (carried p).request_id (carried p).body) ≡ half_of id (parts ++ p ∷ [])
 half_more id [] p e = λ i. Some (record { id = e i; body = sym (append-nil (carried p).body) i; parts = 1 })
@@ -51,7 +54,7 @@ half_counts id (p ∷ ps) = refl
 
 pub half_ids : (id : ℕ) (parts : List Frame) → may_have_id (half_of id parts) id ≡ true
 half_ids id [] = refl
-half_ids id (p ∷ ps) = is_equal id id refl
+half_ids id (p ∷ ps) = eq-eqb id id refl
 
 pub allowed_ready : (k : Known) (h : Option Half) (kind : Option Kind) → Ready k h → is_allowed k kind ≡ has_number kind
 allowed_ready k h kind r = λ i. cond (r.limits i) (is_hello kind) (cond (r.tokens i) (is_open kind) (has_number kind))

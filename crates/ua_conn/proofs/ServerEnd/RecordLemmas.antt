@@ -2,23 +2,20 @@
 use Rattle.std.proofs.Common.{◌≡◌, max, List, [], ◌∷◌, ◌++◌, map, None, refl, sym, ap, subst, ◌∙◌}
 use Rattle.std.proofs.lemmas.List.{append-nil}
 use Rattle.ua_frame.specs.Streams.{Piece, plain, timed, latest, at, rest_of}
-use Rattle.ua_frame.specs.Layout.{Frame, frames_of}
+use Rattle.ua_frame.specs.Layout.{frames_of}
 use Rattle.ua_frame.specs.StreamLaws.{latest_more}
 use Rattle.ua_frame.specs.MomentLaws.{one_piece_more}
 use Rattle.ua_chunk.specs.Numbers.{number_after}
 use Rattle.ua_conn.specs.server.Site.{Site}
-use Rattle.ua_conn.specs.Past.{Past, known}
+use Rattle.ua_conn.specs.Past.{known}
 use Rattle.ua_conn.specs.server.Replies.{reading, reading_of, replies, requests, failing, spelled_all, numbered_after, end_of, reply_bytes}
 use Rattle.ua_conn.specs.server.Held.{newest_first, held, stop, GoesOn, Gains, ByRecord}
 use Rattle.ua_conn.specs.server.Machine.{run, next_after, gain}
 use Rattle.ua_conn.specs.declared.outcome.End.{End}
 use Rattle.ua_conn.specs.declared.outcome.End.TheVariants.{Closed, InputEnded, Truncated, Refused, LinkFailed, TurnsSpent, NoMemory}
+use Rattle.ua_conn.proofs.ServerEnd.ReadyLemmas.{newest_append}
 use Rattle.ua_conn.proofs.ServerEnd.NumberLemmas.{all_numbers, numbered_append, spelled_append, spelled_is_next}
 use Rattle.ua_conn.proofs.ServerEnd.RunLemmas.{run_is, reading_more}
-
-newest_append : (fs gs : List Frame) (past : Past) → newest_first (fs ++ gs) past ≡ newest_first gs (newest_first fs past)
-newest_append [] gs past = refl
-newest_append (f ∷ fs) gs past = newest_append fs gs (f ∷ past)
 
 pub none_fails : (e : End) → stop e ≡ None → failing e ≡ []
 none_fails Closed h = absurd (cc)

@@ -1,14 +1,14 @@
 -- The frames that are written, as replies.
-use Rattle.std.proofs.Common.{◌≡◌, ℕ, ◌+◌, ◌≤◌, true, false, cond, List, [], ◌∷◌, ◌++◌, map, length, Result, refl, sym, ap, ◌∙◌, arith}
+use Rattle.std.proofs.Common.{◌≡◌, ℕ, ◌+◌, ◌≤◌, false, cond, List, [], ◌∷◌, ◌++◌, map, length, Result, refl, sym, ap, ◌∙◌, arith}
 use Rattle.std.specs.Prelude.{is_ok, if◌then◌else◌}
 use Rattle.std.proofs.lemmas.List.{append-nil}
-use Rattle.std.proofs.lemmas.List.FromFn.{length-map-range_with_len}
 use Rattle.ua_frame.specs.Hello.{acknowledge_frame}
 use Rattle.ua_frame.specs.declared.acknowledge.Ack.{Ack}
 use Rattle.ua_chunk.specs.Numbers.{number_after}
 use Rattle.ua_chunk.specs.NumberLaws.{IsNumber, number_after_none, number_after_more}
 use Rattle.ua_chunk.specs.Cut.{Part, part_count, fill}
-use Rattle.ua_chunk.specs.Written.{open_frame, part_frame, abort_frame, message_frames}
+use Rattle.ua_chunk.specs.CutLaws.{length-fill}
+use Rattle.ua_chunk.specs.Written.{open_frame, part_frame, message_frames}
 use Rattle.ua_conn.specs.server.Site.{Site}
 use Rattle.ua_conn.specs.Past.{Agreed}
 use Rattle.ua_conn.specs.server.Replies.{Acknowledge, Opened, Answer, spelled, part_size, is_over_limits, answer_parts, aborted}
@@ -50,34 +50,8 @@ answer_next token n parts h =
 
 -- ---- one abort, or the parts
 
-abbrev SaidBy : {T E : Type 0} → Result T E → List ℕ → List ℕ → List ℕ → Type 0
-SaidBy r old new added = new ≡ (if is_ok r then old ++ added else old)
-
-pub abort_said : {T E : Type 0} (r : Result T E) (old new : List ℕ) (channel token n id : ℕ) (agreed : Agreed) (body : List ℕ) → IsNumber n → is_over_limits agreed body ≡ true →
-    SaidBy r old new (abort_frame channel token n id 0x80B90000) → SaidBy r old new (message_frames channel token n 0 (answer_parts agreed id body))
-abort_said r old new channel token n id agreed body h over e =
-    let same : message_frames channel token n 0 (answer_parts agreed id body) ≡ abort_frame channel token n id 0x80B90000 =
-    ap (λ b. message_frames channel token n 0 (cond b (aborted id 0x80B90000 ∷ []) (fill id body (part_size agreed)))) over
-    ∙ append-nil _
-    ∙ ap (λ m. abort_frame channel token m id 0x80B90000) (number_after_none n h) in
-    e ∙ ap (λ added. if is_ok r then old ++ added else old) (sym same)
-
-pub parts_said : {T E : Type 0} (r : Result T E) (old new : List ℕ) (channel token n id : ℕ) (agreed : Agreed) (body : List ℕ) → is_over_limits agreed body ≡ false →
-    SaidBy r old new (message_frames channel token n 0 (fill id body (part_size agreed))) → SaidBy r old new (message_frames channel token n 0 (answer_parts agreed id body))
-parts_said r old new channel token n id agreed body over e =
-    e ∙ ap (λ b. if is_ok r then old ++ message_frames channel token n 0 (cond b (aborted id 0x80B90000 ∷ []) (fill id body (part_size agreed))) else old) (sym over)
-
-pub fill_count : (id k : ℕ) (body : List ℕ) → length (fill id body k) ≡ part_count (length body) k
-unfolding fill
-fill_count id k body = length-map-range_with_len _ 0 (part_count (length body) k)
-
-pub abort_numbered : {T E : Type 0} (r : Result T E) (n m id : ℕ) (agreed : Agreed) (body : List ℕ) → is_over_limits agreed body ≡ true →
-    m ≡ (if is_ok r then number_after n 1 else n) → m ≡ (if is_ok r then number_after n (length (answer_parts agreed id body)) else n)
-abort_numbered r n m id agreed body over e =
-    e ∙ ap (λ b. if is_ok r then number_after n (length (cond b (aborted id 0x80B90000 ∷ []) (fill id body (part_size agreed)))) else n) (sym over)
-
 pub parts_numbered : {T E : Type 0} (r : Result T E) (n m id : ℕ) (agreed : Agreed) (body : List ℕ) → is_over_limits agreed body ≡ false →
     m ≡ (if is_ok r then number_after n (part_count (length body) (part_size agreed)) else n) → m ≡ (if is_ok r then number_after n (length (answer_parts agreed id body)) else n)
 parts_numbered r n m id agreed body over e =
-    e ∙ ap (λ c. if is_ok r then number_after n c else n) (sym (fill_count id (part_size agreed) body))
+    e ∙ ap (λ c. if is_ok r then number_after n c else n) (sym (length-fill id (part_size agreed) body))
     ∙ ap (λ b. if is_ok r then number_after n (length (cond b (aborted id 0x80B90000 ∷ []) (fill id body (part_size agreed)))) else n) (sym over)

@@ -1,7 +1,6 @@
 -- Each row that does not hold, as a fact; and back.
-use Rattle.std.proofs.Common.{◌≡◌, ℕ, ◌+◌, ◌<◌, ◌≤◌, Bool, true, false, cond, not, ◌&&◌, ◌||◌, ◌==◌, nat_lt, List, [], ◌∷◌, ◌++◌, length, Option, Some, None, is_some, is_none, refl, sym, ap, subst, ◌∙◌, arith, inl, inr}
-use Rattle.std.proofs.lemmas.Bool.{ltb-false, le-ltb, eqb-true, leb-false, lt-leb}
-use Rattle.std.proofs.lemmas.Bool.Decides.{eqb_tells}
+use Rattle.std.proofs.Common.{◌≡◌, ℕ, ◌+◌, ◌<◌, ◌≤◌, Bool, true, false, cond, not, ◌&&◌, ◌||◌, ◌==◌, nat_lt, List, [], ◌∷◌, ◌++◌, length, Option, Some, None, is_some, is_none, refl, sym, ap, subst, ◌∙◌, arith}
+use Rattle.std.proofs.lemmas.Bool.{ltb-false, le-ltb, eqb-true, leb-false, lt-leb, not-false, or_parts, or_from, eq-eqb, not_from_true}
 use Rattle.std.specs.List.{AllByRecursion}
 use Rattle.ua_frame.specs.Layout.{Frame, kind_of, flag_of, fields_of}
 use Rattle.ua_frame.specs.declared.kind.Kind.{Kind}
@@ -19,42 +18,11 @@ use Rattle.ua_chunk.specs.Half.{body_of, parts_of, may_have_id}
 use Rattle.ua_channel.specs.Token.{newest_id, is_usable}
 use Rattle.ua_channel.specs.Admission.{follows_last, is_text, is_int, admit_open_rows}
 use Rattle.ua_conn.specs.Past.{Past, Known, known, is_close, carried, hello_in, open_in}
-use Rattle.ua_conn.specs.server.Faults.{fault_at, frame_rows, is_allowed, greatest_frame, channel_of, request_rows, open_rows}
+use Rattle.ua_conn.specs.server.Faults.{fault_at, frame_rows, is_allowed, greatest_frame, channel_of, request_rows, open_rows, names_usable, chunk_rows_by, message_rows, close_rows}
 use Rattle.ua_conn.specs.server.Legal.{IsWhole, HasSize, IsFaultless}
 use Rattle.ua_service.specs.ChannelMessages.{open_of, close_of}
 use Rattle.ua_service.specs.Requests.{request_of}
-
-abbrev pub AllFalse : List Row → Type 0
-AllFalse rows = AllByRecursion (λ row. row.0 ≡ false) rows
-
-by_test : (v : Bool) (n : ℕ) (o : Option ℕ) → cond v (Some n) o ≡ None → (v ≡ false) × (o ≡ None)
-by_test true n o h = absurd (cc)
-by_test false n o h = (refl, h)
-
-pub none_all : (rows : List Row) → first_row rows ≡ None → AllFalse rows
-none_all [] h = tt
-none_all (row ∷ rows) h = let b = by_test row.0 row.1 (first_row rows) h in (b.0, none_all rows b.1)
-
-pub all_none : (rows : List Row) → AllFalse rows → first_row rows ≡ None
-all_none [] h = refl
-all_none (row ∷ rows) h = ap (λ v. cond v (Some row.1) (first_row rows)) h.0 ∙ all_none rows h.1
-
-pub yes : (v : Bool) → not v ≡ false → v ≡ true
-yes true h = refl
-yes false h = absurd (cc)
-
-pub no : (v : Bool) → v ≡ true → not v ≡ false
-no v h = ap not h
-
-pub both_no : (a b : Bool) → (a || b) ≡ false → (a ≡ false) × (b ≡ false)
-both_no false b h = (refl, h)
-both_no true b h = absurd (cc)
-
-pub or_no : (a b : Bool) → a ≡ false → b ≡ false → (a || b) ≡ false
-or_no a b h k = λ i. h i || k i
-
-pub is_equal : (a b : ℕ) → a ≡ b → (a == b) ≡ true
-is_equal a b e = elim (eqb_tells a b) [ inl h ↦ h.0 | inr h ↦ absurd (h.1 e) ]
+use Rattle.ua_conn.proofs.TableLemmas.{AllNo, all_no, no_row}
 
 -- ---- the whole table, at a whole frame
 
@@ -88,11 +56,11 @@ rows_at site k f kind flag w p q =
     ∙ first_of_both (rows_of (kind_of f.bytes) (flag_of f.bytes) (size_of f.bytes) (greatest_frame k.limits)) (frame_rows site k f (kind_of f.bytes) (flag_of f.bytes))
     ∙ (λ i. first_row (all_rows site k f (p i) (q i)))
 
-pub tells : (site : Site) (k : Known) (f : Frame) (kind : Option Kind) (flag : ℕ) → kind_of f.bytes ≡ kind → flag_of f.bytes ≡ flag → Fine site k f → AllFalse (all_rows site k f kind flag)
-tells site k f kind flag e q n = none_all (all_rows site k f kind flag) (sym (rows_at site k f kind flag n.whole e q) ∙ n.none)
+pub tells : (site : Site) (k : Known) (f : Frame) (kind : Option Kind) (flag : ℕ) → kind_of f.bytes ≡ kind → flag_of f.bytes ≡ flag → Fine site k f → AllNo (all_rows site k f kind flag)
+tells site k f kind flag e q n = all_no (all_rows site k f kind flag) (sym (rows_at site k f kind flag n.whole e q) ∙ n.none)
 
-pub fine_by : (site : Site) (k : Known) (f : Frame) (kind : Option Kind) (flag : ℕ) → IsWhole f → kind_of f.bytes ≡ kind → flag_of f.bytes ≡ flag → AllFalse (all_rows site k f kind flag) → Fine site k f
-fine_by site k f kind flag w e q h = record { whole = w; none = rows_at site k f kind flag w e q ∙ all_none (all_rows site k f kind flag) h }
+pub fine_by : (site : Site) (k : Known) (f : Frame) (kind : Option Kind) (flag : ℕ) → IsWhole f → kind_of f.bytes ≡ kind → flag_of f.bytes ≡ flag → AllNo (all_rows site k f kind flag) → Fine site k f
+fine_by site k f kind flag w e q h = record { whole = w; none = rows_at site k f kind flag w e q ∙ no_row (all_rows site k f kind flag) h }
 
 -- the same of a list of frames
 pub fine_all : (site : Site) (past : Past) (fs : List Frame) → AllByRecursion IsWhole fs → IsFaultless site past fs → AreFine site past fs
@@ -110,7 +78,7 @@ int_is n (pos m) h = ap pos (eqb-true m n h)
 int_is n (negsuc m) h = absurd (cc)
 
 is_that : (n : ℕ) (z : ℤ) → z ≡ pos n → is_int n z ≡ true
-is_that n z e = ap (is_int n) e ∙ is_equal n n refl
+is_that n z e = ap (is_int n) e ∙ eq-eqb n n refl
 
 -- what the header, the layout and admission say of a MSG or CLO
 pub record Admits (site : Site) (k : Known) (f : Frame) : Type 0 where
@@ -149,52 +117,56 @@ none_no (Some a) h = refl
 pub least_size : {k : Known} {f : Frame} → HasSize k f → 8 ≤ size_of f.bytes
 least_size h = omega (arith, h.whole.frame.header, h.whole.frame.whole)
 
+-- of the rows of a MSG or CLO, the first that are its channel's
+admits_here : (site : Site) (k : Known) (f : Frame) (more : List Row) → HasSize k f → AllNo (chunk_rows_by site k f (names_usable k f) ++ more) → Admits site k f
+admits_here site k f more size h = record {
+  size = size;
+  layout = some_of _ h.0;
+  channel = eqb-true _ _ (not-false _ h.1.0);
+  token = not-false _ h.1.1.0;
+  number = not-false _ h.1.1.1.0;
+}
+
 -- a MSG of a flag
-pub part_tells : (site : Site) (k : Known) (f : Frame) (flag : ℕ) → IsWhole f → AllFalse (all_rows site k f (Some kinds.Message) flag) → Part site k flag f
+pub part_tells : (site : Site) (k : Known) (f : Frame) (flag : ℕ) → IsWhole f → AllNo (all_rows site k f (Some kinds.Message) flag) → Part site k flag f
 part_tells site k f flag w h =
     let t5 = h.1.1.1.1.1 in
     let t9 = t5.1.1.1.1 in
     let c = carried f in
     record {
-      admits = record {
-        size = record { whole = w; least = ltb-false _ _ h.1.1.1.0 };
-        layout = some_of _ t5.0;
-        channel = eqb-true _ _ (yes _ t5.1.0);
-        token = yes _ t5.1.1.0;
-        number = yes _ t5.1.1.1.0;
-      };
-      opened = yes _ h.1.1.1.1.0;
-      id = yes _ t9.0;
-      count = λ e. ltb-false _ _ (both_no _ _ (if_holds (not (flag == 65)) _ t9.1.0 e)).0;
-      bytes = λ e. ltb-false _ _ (both_no _ _ (if_holds (not (flag == 65)) _ t9.1.0 e)).1;
+      admits = admits_here site k f (message_rows site k flag c) (record { whole = w; least = ltb-false _ _ h.1.1.1.0 }) t5;
+      opened = not-false _ h.1.1.1.1.0;
+      id = not-false _ t9.0;
+      count = λ e. ltb-false _ _ (or_parts _ _ (if_holds (not (flag == 65)) _ t9.1.0 e)).0;
+      bytes = λ e. ltb-false _ _ (or_parts _ _ (if_holds (not (flag == 65)) _ t9.1.0 e)).1;
       abort = λ e. some_of _ (if_holds (flag == 65) _ t9.1.1.0 e);
       request = λ e. some_of _ (if_holds (flag == 70) _ t9.1.1.1.0 e);
     }
 
-pub part_rows : (site : Site) (k : Known) (f : Frame) (flag : ℕ) → (flag == 67 || flag == 70 || flag == 65) ≡ true → Part site k flag f → AllFalse (all_rows site k f (Some kinds.Message) flag)
+pub part_rows : (site : Site) (k : Known) (f : Frame) (flag : ℕ) → (flag == 67 || flag == 70 || flag == 65) ≡ true → Part site k flag f → AllNo (all_rows site k f (Some kinds.Message) flag)
 part_rows site k f flag e p =
     let a = p.admits in (
       refl,
       (
-        no _ e,
+        not_from_true _ e,
         (
           le-ltb _ _ (least_size a.size),
           (
             le-ltb _ _ a.size.least,
             (
-              no _ p.opened,
+              not_from_true _ p.opened,
               (
                 none_no _ a.layout,
                 (
-                  no _ (is_equal _ _ a.channel),
+                  not_from_true _ (eq-eqb _ _ a.channel),
                   (
-                    no _ a.token,
+                    not_from_true _ a.token,
                     (
-                      no _ a.number,
+                      not_from_true _ a.number,
                       (
-                        no _ p.id,
+                        not_from_true _ p.id,
                         (
-                          and_no (not (flag == 65)) _ (λ e. or_no _ _ (le-ltb _ _ (p.count e)) (le-ltb _ _ (p.bytes e))),
+                          and_no (not (flag == 65)) _ (λ e. or_from _ _ (le-ltb _ _ (p.count e)) (le-ltb _ _ (p.bytes e))),
                           (
                             and_no (flag == 65) _ (λ e. none_no _ (p.abort e)),
                             (and_no (flag == 70) _ (λ e. none_no _ (p.request e)), tt),
@@ -216,22 +188,16 @@ pub record CloseAt (site : Site) (k : Known) (f : Frame) : Type 0 where
   pub opened : is_allowed k (Some kinds.Close) ≡ true
   pub close : is_some (close_of (carried f).body) ≡ true
 
-pub close_tells : (site : Site) (k : Known) (f : Frame) (flag : ℕ) → IsWhole f → AllFalse (all_rows site k f (Some kinds.Close) flag) → CloseAt site k f
+pub close_tells : (site : Site) (k : Known) (f : Frame) (flag : ℕ) → IsWhole f → AllNo (all_rows site k f (Some kinds.Close) flag) → CloseAt site k f
 close_tells site k f flag w h =
     let t5 = h.1.1.1.1.1 in
     record {
-      admits = record {
-        size = record { whole = w; least = ltb-false _ _ h.1.1.1.0 };
-        layout = some_of _ t5.0;
-        channel = eqb-true _ _ (yes _ t5.1.0);
-        token = yes _ t5.1.1.0;
-        number = yes _ t5.1.1.1.0;
-      };
-      opened = yes _ h.1.1.1.1.0;
-      close = yes _ t5.1.1.1.1.0;
+      admits = admits_here site k f (close_rows (carried f)) (record { whole = w; least = ltb-false _ _ h.1.1.1.0 }) t5;
+      opened = not-false _ h.1.1.1.1.0;
+      close = not-false _ t5.1.1.1.1.0;
     }
 
-pub close_rows_no : (site : Site) (k : Known) (f : Frame) → CloseAt site k f → AllFalse (all_rows site k f (Some kinds.Close) 70)
+pub close_rows_no : (site : Site) (k : Known) (f : Frame) → CloseAt site k f → AllNo (all_rows site k f (Some kinds.Close) 70)
 close_rows_no site k f p =
     let a = p.admits in (
       refl,
@@ -242,8 +208,8 @@ close_rows_no site k f p =
           (
             le-ltb _ _ a.size.least,
             (
-              no _ p.opened,
-              (none_no _ a.layout, (no _ (is_equal _ _ a.channel), (no _ a.token, (no _ a.number, (no _ p.close, tt))))),
+              not_from_true _ p.opened,
+              (none_no _ a.layout, (not_from_true _ (eq-eqb _ _ a.channel), (not_from_true _ a.token, (not_from_true _ a.number, (not_from_true _ p.close, tt))))),
             ),
           ),
         ),
@@ -266,37 +232,37 @@ pub record OpenAt (site : Site) (k : Known) (f : Frame) : Type 0 where
   pub unspent : newest_id k.tokens < 4294967295
 
 open_by_request : (site : Site) (k : Known) (f : Frame) (o : OpenChunk) (v : Option OpenRequest) → open_in f ≡ Some o → open_of o.body ≡ v →
-    HasSize k f → is_allowed k (Some kinds.Open) ≡ true → AllFalse (admit_open_rows (channel_of site k) o ++ (is_some k.half, 0x807E0000) ∷ request_rows site k v) → OpenAt site k f
+    HasSize k f → is_allowed k (Some kinds.Open) ≡ true → AllNo (admit_open_rows (channel_of site k) o ++ (is_some k.half, 0x807E0000) ∷ request_rows site k v) → OpenAt site k f
 open_by_request site k f o None e q size allowed h = absurd (let x = h.1.1.1.1.0 in cc)
 open_by_request site k f o (Some r) e q size allowed h = record {
   size = size;
   allowed = allowed;
   opening = o;
   layout = e;
-  channel_id = eqb-true _ _ (yes _ h.0);
-  policy = yes _ h.1.0;
-  number = yes _ h.1.1.0;
+  channel_id = eqb-true _ _ (not-false _ h.0);
+  policy = not-false _ h.1.0;
+  number = not-false _ h.1.1.0;
   half = h.1.1.1.0;
   request = r;
   body = q;
-  request_type = int_is _ _ (yes _ h.1.1.1.1.0);
-  mode = int_is _ _ (yes _ h.1.1.1.1.1.0);
+  request_type = int_is _ _ (not-false _ h.1.1.1.1.0);
+  mode = int_is _ _ (not-false _ h.1.1.1.1.1.0);
   unspent = leb-false _ _ h.1.1.1.1.1.1.0;
 }
 
 open_by_chunk : (site : Site) (k : Known) (f : Frame) (v : Option OpenChunk) → open_in f ≡ v →
-    HasSize k f → is_allowed k (Some kinds.Open) ≡ true → AllFalse (open_rows site k v) → OpenAt site k f
+    HasSize k f → is_allowed k (Some kinds.Open) ≡ true → AllNo (open_rows site k v) → OpenAt site k f
 open_by_chunk site k f None e size allowed h = absurd (let x = h.0 in cc)
 open_by_chunk site k f (Some o) e size allowed h = open_by_request site k f o (open_of o.body) e refl size allowed h
 
-pub open_tells : (site : Site) (k : Known) (f : Frame) (flag : ℕ) → IsWhole f → AllFalse (all_rows site k f (Some kinds.Open) flag) → OpenAt site k f
+pub open_tells : (site : Site) (k : Known) (f : Frame) (flag : ℕ) → IsWhole f → AllNo (all_rows site k f (Some kinds.Open) flag) → OpenAt site k f
 open_tells site k f flag w h =
-    open_by_chunk site k f (open_in f) refl (record { whole = w; least = ltb-false _ _ h.1.1.1.0 }) (yes _ h.1.1.1.1.0) h.1.1.1.1.1
+    open_by_chunk site k f (open_in f) refl (record { whole = w; least = ltb-false _ _ h.1.1.1.0 }) (not-false _ h.1.1.1.1.0) h.1.1.1.1.1
 
-pub open_rows_no : (site : Site) (k : Known) (f : Frame) → OpenAt site k f → AllFalse (all_rows site k f (Some kinds.Open) 70)
+pub open_rows_no : (site : Site) (k : Known) (f : Frame) → OpenAt site k f → AllNo (all_rows site k f (Some kinds.Open) 70)
 open_rows_no site k f p =
-    let P : Option OpenChunk → Type 0 = λ v. AllFalse (open_rows site k v) in
-    let Q : Option OpenRequest → Type 0 = λ v. AllFalse (admit_open_rows (channel_of site k) p.opening ++ (is_some k.half, 0x807E0000) ∷ request_rows site k v) in (
+    let P : Option OpenChunk → Type 0 = λ v. AllNo (open_rows site k v) in
+    let Q : Option OpenRequest → Type 0 = λ v. AllNo (admit_open_rows (channel_of site k) p.opening ++ (is_some k.half, 0x807E0000) ∷ request_rows site k v) in (
       refl,
       (
         refl,
@@ -305,16 +271,16 @@ open_rows_no site k f p =
           (
             le-ltb _ _ p.size.least,
             (
-              no _ p.allowed,
+              not_from_true _ p.allowed,
               subst P (sym p.layout) (subst Q (sym p.body) (
-                no _ (is_equal _ _ p.channel_id),
+                not_from_true _ (eq-eqb _ _ p.channel_id),
                 (
-                  no _ p.policy,
+                  not_from_true _ p.policy,
                   (
-                    no _ p.number,
+                    not_from_true _ p.number,
                     (
                       p.half,
-                      (no _ (is_that _ _ p.request_type), (no _ (is_that _ _ p.mode), (lt-leb _ _ p.unspent, tt))),
+                      (not_from_true _ (is_that _ _ p.request_type), (not_from_true _ (is_that _ _ p.mode), (lt-leb _ _ p.unspent, tt))),
                     ),
                   ),
                 ),
@@ -334,7 +300,7 @@ pub record HelloAt (site : Site) (k : Known) (f : Frame) : Type 0 where
   pub receive : 8192 ≤ hello.receive
   pub send : 8192 ≤ hello.send
 
-hello_by : (site : Site) (k : Known) (f : Frame) (v : Option Hello) → hello_in f ≡ v → HasSize k f → is_allowed k (Some kinds.Hello) ≡ true → AllFalse (hello_rows v) → HelloAt site k f
+hello_by : (site : Site) (k : Known) (f : Frame) (v : Option Hello) → hello_in f ≡ v → HasSize k f → is_allowed k (Some kinds.Hello) ≡ true → AllNo (hello_rows v) → HelloAt site k f
 hello_by site k f None e size allowed h = absurd (let x = h.0 in cc)
 hello_by site k f (Some o) e size allowed h = record {
   size = size;
@@ -342,16 +308,16 @@ hello_by site k f (Some o) e size allowed h = record {
   hello = o;
   layout = e;
   url = h.0;
-  receive = ltb-false _ _ (both_no _ _ h.1.0).0;
-  send = ltb-false _ _ (both_no _ _ h.1.0).1;
+  receive = ltb-false _ _ (or_parts _ _ h.1.0).0;
+  send = ltb-false _ _ (or_parts _ _ h.1.0).1;
 }
 
-pub hello_tells : (site : Site) (k : Known) (f : Frame) (flag : ℕ) → IsWhole f → AllFalse (all_rows site k f (Some kinds.Hello) flag) → HelloAt site k f
-hello_tells site k f flag w h = hello_by site k f (hello_in f) refl (record { whole = w; least = ltb-false _ _ h.1.1.1.0 }) (yes _ h.1.1.1.1.0) h.1.1.1.1.1
+pub hello_tells : (site : Site) (k : Known) (f : Frame) (flag : ℕ) → IsWhole f → AllNo (all_rows site k f (Some kinds.Hello) flag) → HelloAt site k f
+hello_tells site k f flag w h = hello_by site k f (hello_in f) refl (record { whole = w; least = ltb-false _ _ h.1.1.1.0 }) (not-false _ h.1.1.1.1.0) h.1.1.1.1.1
 
-pub hello_rows_no : (site : Site) (k : Known) (f : Frame) → HelloAt site k f → AllFalse (all_rows site k f (Some kinds.Hello) 70)
+pub hello_rows_no : (site : Site) (k : Known) (f : Frame) → HelloAt site k f → AllNo (all_rows site k f (Some kinds.Hello) 70)
 hello_rows_no site k f p =
-    let P : Option Hello → Type 0 = λ v. AllFalse (hello_rows v) in (
+    let P : Option Hello → Type 0 = λ v. AllNo (hello_rows v) in (
       refl,
       (
         refl,
@@ -360,8 +326,8 @@ hello_rows_no site k f p =
           (
             le-ltb _ _ p.size.least,
             (
-              no _ p.allowed,
-              subst P (sym p.layout) (p.url, (or_no _ _ (le-ltb _ _ p.receive) (le-ltb _ _ p.send), tt)),
+              not_from_true _ p.allowed,
+              subst P (sym p.layout) (p.url, (or_from _ _ (le-ltb _ _ p.receive) (le-ltb _ _ p.send), tt)),
             ),
           ),
         ),

@@ -1,11 +1,9 @@
 -- Once a stream has a fault or a CLO, what comes later changes nothing.
-use Rattle.std.proofs.Common.{◌≡◌, ℕ, ◌<◌, ◌≤◌, max, Bool, true, false, cond, List, [], ◌∷◌, ◌++◌, map, take, length, Option, Some, None, refl, sym, ap, subst, ◌∙◌, arith, append_assoc, ◌⊎◌, inl, inr}
+use Rattle.std.proofs.Common.{◌≡◌, ℕ, ◌≤◌, Bool, true, false, cond, List, [], ◌∷◌, ◌++◌, map, take, Option, Some, None, refl, sym, ap, ◌∙◌}
 use Rattle.std.proofs.lemmas.List.{map-append}
-use Rattle.std.proofs.lemmas.Bool.{cases_lt}
-use Rattle.ua_frame.specs.Streams.{Piece, TimedByte, at, plain, size_of, IsFrame, cuts_of, rest_of, timed, timed_since, latest_since}
-use Rattle.ua_frame.specs.StreamLaws.{framed_more, framed_stop, frame_size, front_is_frame, plain_take, length_plain}
-use Rattle.ua_frame.specs.Layout.{Frame, last_moment, frame_by, frames_of, kind_of, flag_of}
-use Rattle.ua_frame.specs.LayoutLaws.{frames_step}
+use Rattle.ua_frame.specs.Streams.{TimedByte, plain, size_of, cuts_of, rest_of, timed, timed_since, latest_since}
+use Rattle.ua_frame.specs.StreamLaws.{timed_append, framed_more}
+use Rattle.ua_frame.specs.Layout.{Frame, frame_by, frames_of, kind_of, flag_of}
 use Rattle.ua_frame.specs.Rows.{first_row, or_else}
 use Rattle.ua_frame.specs.HeaderLaws.{header_fault_take, header_fault_stays}
 use Rattle.ua_conn.specs.server.Site.{Site}
@@ -16,13 +14,7 @@ use Rattle.ua_conn.specs.server.Held.{stop}
 use Rattle.ua_conn.specs.server.Whole.{StaysStopped}
 use Rattle.ua_conn.specs.declared.outcome.End.{End}
 use Rattle.ua_conn.specs.declared.outcome.End.TheVariants.{Closed, Refused}
-
--- the pieces behind ps, as they are timed
-timed_append : (since : ℕ) (ps qs : List Piece) → timed_since since (ps ++ qs) ≡ timed_since since ps ++ timed_since (latest_since since ps) qs
-timed_append since [] qs = refl
-timed_append since (p ∷ ps) qs =
-    ap (λ s. map (at (max since p.moment)) p.bytes ++ s) (timed_append (max since p.moment) ps qs)
-    ∙ sym (append_assoc (map (at (max since p.moment)) p.bytes) _ _)
+use Rattle.ua_conn.proofs.FrontFrameLemmas.{front_of, by_front}
 
 -- the reading with a rest that has a bad header or none
 later_cases : (o : Option ℕ) (b : Bool) (past : Past) (f : Frame) (R R' : Reading) (e : End) → (stop R.ending ≡ Some e → R' ≡ R) →
@@ -71,29 +63,10 @@ reading_refuses site past f fs rest status h = refuses_cases (fault_at site (kno
 
 -- what a bad header brings, whether the frame is whole or not
 bad_reading : (site : Site) (past : Past) (s : List TimedByte) (status : ℕ) → fault_in_rest (known site past) (plain s) ≡ Some status → reading site past (frames_of s) (plain (rest_of s)) ≡ record { past = past; ending = Refused status }
-bad_reading site past s status h = by_sizes (cases_lt (size_of (plain s)) 8) (cases_lt (length (plain s)) (size_of (plain s)))
-  where
-    one : 8 ≤ size_of (plain s) → size_of (plain s) ≤ length (plain s) → reading site past (frames_of s) (plain (rest_of s)) ≡ record { past = past; ending = Refused status }
-    one low high =
-        let z = size_of (plain s) in
-        let c = frames_step s z (front_is_frame (plain s) low high) in
-        let fault : fault_at site (known site past) (frame_by (take z s)) ≡ Some status =
-        (λ i. fault_at site (known site past) (record { bytes = plain_take z s i; moment = last_moment (take z s) }))
-        ∙ bad_whole site (known site past) (plain s) z (last_moment (take z s)) status low h in
-        (λ i. reading site past (c.0 i) (plain (rest_of s))) ∙ reading_refuses site past (frame_by (take z s)) _ (plain (rest_of s)) status fault
-
-    none : ((n : ℕ) → n ≤ length s → IsFrame (plain (take n s)) → ⊥) → reading site past (frames_of s) (plain (rest_of s)) ≡ record { past = past; ending = Refused status }
-    none lacks =
-        let n = framed_stop s lacks in
-        (λ i. reading site past (map frame_by (n.0 i)) (plain (n.1 i))) ∙ (λ i. record { past = past; ending = ended (h i) (plain s) })
-
-    size_at : (n : ℕ) → n ≤ length s → IsFrame (plain (take n s)) → (8 ≤ n) × (size_of (plain s) ≡ n)
-    size_at n le is = frame_size n (plain s) (omega (arith, le, length_plain s)) (subst IsFrame (plain_take n s) is)
-
-    by_sizes : (size_of (plain s) < 8) ⊎ (8 ≤ size_of (plain s)) → (length (plain s) < size_of (plain s)) ⊎ (size_of (plain s) ≤ length (plain s)) → reading site past (frames_of s) (plain (rest_of s)) ≡ record { past = past; ending = Refused status }
-    by_sizes (inr low) (inr high) = one low high
-    by_sizes (inl small) b = none (λ n le is. (let z = size_at n le is in omega (arith, small, z.0, z.1)))
-    by_sizes (inr low) (inl long) = none (λ n le is. (let z = size_at n le is in omega (arith, long, le, length_plain s, z.1)))
+bad_reading site past s status h =
+    by_front (λ fs rest. reading site past fs rest ≡ record { past = past; ending = Refused status }) s
+    (λ low fs rest. reading_refuses site past (front_of s) fs rest status (bad_whole site (known site past) (plain s) (size_of (plain s)) (front_of s).moment status low h))
+    (λ i. record { past = past; ending = ended (h i) (plain s) })
 
 -- a stream with a fault or a CLO, read with what comes later
 pub reading_stays : (site : Site) (s t : List TimedByte) (e : End) → stop (end_of site s) ≡ Some e → reading_of site (s ++ t) ≡ reading_of site s

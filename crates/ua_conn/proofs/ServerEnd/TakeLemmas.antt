@@ -1,11 +1,10 @@
 -- What a whole frame does, from the effect of its type.
-use Rattle.std.proofs.Common.{◌≡◌, ℕ, Bool, true, false, cond, not, List, ◌++◌, length, ◌==◌, Option, Some, None, is_none, Result, Ok, Err, IfOk, OnErr, refl, sym, ap, ◌∙◌}
+use Rattle.std.proofs.Common.{◌≡◌, ℕ, true, false, cond, not, List, ◌++◌, Some, None, Result, Ok, Err, IfOk, OnErr, refl, sym, ap, ◌∙◌}
 use Rattle.ua_frame.specs.Rows.{first_row, or_else}
 use Rattle.ua_frame.specs.HeaderRows.{header_fault}
 use Rattle.ua_frame.specs.Layout.{Frame, kind_of, flag_of}
-use Rattle.ua_frame.specs.declared.kind.Kind.{Kind}
 use Rattle.ua_conn.specs.server.Site.{Site}
-use Rattle.ua_conn.specs.Past.{Known, is_hello, is_open, is_close, has_number}
+use Rattle.ua_conn.specs.Past.{Known, is_close}
 use Rattle.ua_conn.specs.server.Faults.{fault_at, frame_rows, type_rows, is_allowed, greatest_frame}
 use Rattle.ua_conn.specs.server.Machine.{spelled_next, next_after}
 use Rattle.ua_conn.specs.server.Taking.{Running, Gained, Stands, Refuses, Takes}
@@ -35,15 +34,6 @@ out_of_turn old f had h a = record {
   fault = by_rows old.site old.known f h ∙ ap (λ b. cond (not b) (Some 0x807E0000) (first_row (type_rows old.site old.known f (flag_of f.bytes) (kind_of f.bytes)))) a;
   unchanged = refl;
 }
-
--- no type but those of a client comes in turn
-pub never : (k : Known) (kind : Option Kind) → is_hello kind ≡ false → is_open kind ≡ false → has_number kind ≡ false → is_allowed k kind ≡ false
-never k kind h o n = either (is_none k.limits) (length k.tokens == 0)
-  where
-    either : (a b : Bool) → cond a (is_hello kind) (cond b (is_open kind) (has_number kind)) ≡ false
-    either true b = h
-    either false true = o
-    either false false = n
 
 stands : (old new : Running) (f : Frame) (e : Effect) (had has : Gained) → header_fault (greatest_frame old.known.limits) f.bytes ≡ None → is_allowed old.known (kind_of f.bytes) ≡ true →
     is_close (kind_of f.bytes) ≡ false → IsEffect e old.site old.known f → Acts e old new had has → Stands old new f had has

@@ -1,5 +1,6 @@
 -- When a client takes a command, and why it refuses one.
-use Rattle.std.specs.Prelude.{ℕ, ◌-◌, Bool, true, false, not, ◌&&◌, ◌||◌, ◌==◌, nat_lt, nat_le, List, [], ◌∷◌, length, Option, Some, None, is_some}
+use Rattle.std.specs.Prelude.{ℕ, ◌-◌, Bool, false, not, ◌&&◌, ◌||◌, ◌==◌, nat_lt, nat_le, List, [], ◌∷◌, length, Option, Some, None, is_some}
+use Rattle.ua_frame.specs.Rows.{first_row}
 use Rattle.ua_frame.specs.Streams.{TimedByte}
 use Rattle.ua_frame.specs.declared.acknowledge.Ack.{Ack}
 use Rattle.ua_chunk.specs.Cut.{part_count}
@@ -11,27 +12,9 @@ use Rattle.ua_conn.specs.client.Past.{ClientKnown, client_known}
 use Rattle.ua_conn.specs.client.Asker.{Asker}
 use Rattle.ua_conn.specs.client.Commands.{Act, Ask, Renew, Close, Commands, next_id, is_closed}
 use Rattle.ua_conn.specs.client.Pending.{pending_in, due_in}
-use Rattle.ua_conn.specs.client.Faults.{first_of}
 use Rattle.ua_conn.specs.client.Reading.{client_reading_of}
 use Rattle.ua_conn.specs.declared.client.ask_fault.AskFault.{AskFault}
 use Rattle.ua_conn.specs.declared.client.ask_fault.AskFault.TheVariants.{NotOpen, TooLarge, TooManyPending, IdsSpent, RenewPending, StillPending, Ended, BadPartLimit}
-
--- ---- what may be in flight
-
--- how many requests may be pending, and whether a renewal may be pending beside requests
-pub record InFlight : Type 0 where
-  pub requests : ℕ
-  pub together : Bool
-
-abbrev pub one_at_a_time : InFlight
-one_at_a_time = record { requests = 1; together = false }
-
-abbrev pub many : InFlight
-many = record { requests = 64; together = true }
-
--- what this client allows
-abbrev pub in_flight : InFlight
-in_flight = many
 
 -- ---- what a command meets
 
@@ -76,21 +59,19 @@ is_too_large None part request = false
 is_too_large (Some ack) part request =
     is_over ack.max_message (length (canon_request request)) || is_over ack.max_chunks (part_count (length (canon_request request)) part)
 
--- bad part limit; renewal pending, where requests wait for it; too many pending, ids spent, too large
-abbrev pub asking_rows : InFlight → Standing → Request → ℕ → List AskRow
-asking_rows flight s request part =
+-- bad part limit, too many pending, ids spent, too large
+abbrev pub asking_rows : Standing → Request → ℕ → List AskRow
+asking_rows s request part =
     (part == 0 || nat_lt (greatest_part s.ack) part, BadPartLimit)
-    ∷ (not flight.together && s.renewing, RenewPending)
-    ∷ (nat_le flight.requests s.pending, TooManyPending)
+    ∷ (nat_le 64 s.pending, TooManyPending)
     ∷ (nat_lt 4294967295 s.next_id, IdsSpent)
     ∷ (is_too_large s.ack part request, TooLarge)
     ∷ []
 
--- renewal pending; still pending, where a renewal waits for requests; ids spent
-abbrev pub renewing_rows : InFlight → Standing → List AskRow
-renewing_rows flight s =
+-- renewal pending, ids spent
+abbrev pub renewing_rows : Standing → List AskRow
+renewing_rows s =
     (s.renewing, RenewPending)
-    ∷ (not flight.together && nat_lt 0 s.pending, StillPending)
     ∷ (nat_lt 4294967295 s.next_id, IdsSpent)
     ∷ []
 
@@ -102,17 +83,17 @@ closing_rows s =
     ∷ (nat_lt 4294967295 s.next_id, IdsSpent)
     ∷ []
 
-abbrev pub act_rows : InFlight → Standing → Act → List AskRow
-act_rows flight s (Ask request part) = asking_rows flight s request part
-act_rows flight s Renew = renewing_rows flight s
-act_rows flight s Close = closing_rows s
+abbrev pub act_rows : Standing → Act → List AskRow
+act_rows s (Ask request part) = asking_rows s request part
+act_rows s Renew = renewing_rows s
+act_rows s Close = closing_rows s
 
 -- of a client that has not failed: not open, and the rows of the command
-abbrev pub refusal : InFlight → Standing → Act → Option AskFault
-refusal flight s act = first_of ((not s.channel_open, NotOpen) ∷ act_rows flight s act)
+abbrev pub refusal : Standing → Act → Option AskFault
+refusal s act = first_row ((not s.channel_open, NotOpen) ∷ act_rows s act)
 
 -- Why the command is refused, first reason first, where these commands were accepted and these bytes came.
-abbrev pub ask_fault : InFlight → Asker → Commands → List TimedByte → Act → Option AskFault
-ask_fault flight a cmds v act =
+abbrev pub ask_fault : Asker → Commands → List TimedByte → Act → Option AskFault
+ask_fault a cmds v act =
     let r = client_reading_of a cmds v in
-    first_of ((is_some r.fault, Ended) ∷ (not (standing cmds r.past).channel_open, NotOpen) ∷ act_rows flight (standing cmds r.past) act)
+    first_row ((is_some r.fault, Ended) ∷ (not (standing cmds r.past).channel_open, NotOpen) ∷ act_rows (standing cmds r.past) act)

@@ -1,11 +1,11 @@
 -- What a whole frame of each type does to a client, by what it carries: the rows that refuse it, what is waited for then, what is said and answered.
 use Rattle.std.specs.Prelude.{◌≡◌, ℕ, List, [], ◌∷◌, ◌++◌, Option, Some, None, is_none, Result, Ok, Err, if◌then◌else◌}
 use Rattle.ua_frame.specs.Layout.{Frame}
-use Rattle.ua_frame.specs.Rows.{Row}
+use Rattle.ua_frame.specs.Rows.{Row, first_row}
 use Rattle.ua_frame.specs.declared.acknowledge.Ack.{Ack}
 use Rattle.ua_chunk.specs.Layout.{OpenChunk, Chunk}
 use Rattle.ua_chunk.specs.Half.{half_after, ends_message}
-use Rattle.ua_channel.specs.Token.{is_usable, two_newest}
+use Rattle.ua_channel.specs.Token.{two_newest}
 use Rattle.ua_channel.specs.Channel.{Channel}
 use Rattle.ua_channel.specs.Admission.{admit_rows}
 use Rattle.ua_service.specs.ChannelMessages.{open_response_of}
@@ -13,7 +13,7 @@ use Rattle.ua_conn.specs.Past.{or_empty, sequence_of, body_of as open_body}
 use Rattle.ua_conn.specs.client.Past.{client_channel, granted_by, channel_named}
 use Rattle.ua_conn.specs.client.Asker.{Asker}
 use Rattle.ua_conn.specs.client.Pending.{opening_id}
-use Rattle.ua_conn.specs.client.Faults.{FaultRow, broken, first_of, acknowledge_rows, opened_rows, answer_rows}
+use Rattle.ua_conn.specs.client.Faults.{FaultRow, broken, acknowledge_rows, opened_rows, answer_rows}
 use Rattle.ua_conn.specs.client.Questions.{open_asked_body}
 use Rattle.ua_conn.specs.client.Reading.{answer_with, result_by}
 use Rattle.ua_conn.specs.client.Sending.{Sent, Opening}
@@ -97,12 +97,12 @@ FaultIs row fault = row ≡ Some fault
 
 -- what a judgement by the rows gives
 abbrev pub Judges : {V : Type 0} → List FaultRow → (V → Type 0) → Result V ClientFault → Type 0
-Judges rows P (Ok v) = (first_of rows ≡ None) × P v
-Judges rows P (Err fault) = FaultIs (first_of rows) fault
+Judges rows P (Ok v) = (first_row rows ≡ None) × P v
+Judges rows P (Err fault) = FaultIs (first_row rows) fault
 
 -- no row refuses the frame: all that it does is done
 pub record Acts (e : ClientEffect) (old new : ClientRunning) (had has : Given) : Type 0 where
-  pub fine : first_of e.rows ≡ None
+  pub fine : first_row e.rows ≡ None
   pub config : new.config ≡ old.config
   pub waits : new.waits ≡ e.waits
   pub number : new.next ≡ next_sent old.next e.says
@@ -111,7 +111,7 @@ pub record Acts (e : ClientEffect) (old new : ClientRunning) (had has : Given) :
 
 abbrev pub Does : ClientEffect → ClientRunning → ClientRunning → Given → Given → Result (Unit {0}) ClientFault → Type 0
 Does e old new had has (Ok u) = Acts e old new had has
-Does e old new had has (Err fault) = FaultIs (first_of e.rows) fault × (has.bytes ≡ had.bytes)
+Does e old new had has (Err fault) = FaultIs (first_row e.rows) fault × (has.bytes ≡ had.bytes)
 
 -- ---- a whole frame, by the definitions of the whole
 

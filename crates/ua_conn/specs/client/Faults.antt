@@ -1,7 +1,7 @@
 -- The table of refusals of a client, at one frame behind others. OPC 10000-6, 6.7 and 7.1; OPC 10000-4, 5.6.2.
 use Rattle.std.specs.Prelude.{ℕ, Bool, true, false, not, ◌&&◌, ◌||◌, ◌==◌, nat_le, List, [], ◌∷◌, ◌++◌, map, length, Option, Some, None, is_some, is_none, option_map, if◌then◌else◌}
 use Rattle.ua_frame.specs.Layout.{Frame, kind_of, flag_of, fields_of}
-use Rattle.ua_frame.specs.Rows.{Row}
+use Rattle.ua_frame.specs.Rows.{Row, first_row, or_else}
 use Rattle.ua_frame.specs.HeaderRows.{header_fault}
 use Rattle.ua_frame.specs.Hello.{is_acceptable}
 use Rattle.ua_frame.specs.declared.kind.Kind.{Kind}
@@ -31,18 +31,8 @@ use Rattle.ua_conn.specs.declared.client.fault.ClientFault.TheVariants.{ServerSa
 abbrev pub FaultRow : Type 0
 FaultRow = Bool × ClientFault
 
--- the first row that holds decides
-abbrev pub first_of : {S : Type 0} → List (Bool × S) → Option S
-first_of [] = None
-first_of (row ∷ rows) = if row.0 then Some row.1 else first_of rows
-
 abbrev pub broken : List Row → List FaultRow
 broken rows = map (λ row. (row.0, Broken row.1)) rows
-
--- the one fault, or else the other
-abbrev pub or_fault : Option ClientFault → Option ClientFault → Option ClientFault
-or_fault None second = second
-or_fault (Some fault) second = Some fault
 
 -- ---- the header and the type
 
@@ -156,7 +146,7 @@ client_rows a k due wanted usable f flag kind = (not (is_awaited k due kind), Br
 -- The whole table, at a whole frame. Whether its token is usable is said apart.
 unfoldable pub client_fault_by : Asker → ClientKnown → Option ℕ → Option Request → Bool → Frame → Option ClientFault
 client_fault_by a k due wanted usable f =
-    or_fault (option_map Broken (header_fault (greatest_answer k.ack) f.bytes)) (first_of (client_rows a k due wanted usable f (flag_of f.bytes) (kind_of f.bytes)))
+    or_else (option_map Broken (header_fault (greatest_answer k.ack) f.bytes)) (first_row (client_rows a k due wanted usable f (flag_of f.bytes) (kind_of f.bytes)))
 
 -- its token is one of the two newest, and alive at its moment
 abbrev pub token_usable : ClientKnown → Frame → Bool

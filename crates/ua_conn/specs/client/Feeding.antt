@@ -6,7 +6,6 @@ use Rattle.ua_conn.specs.client.Asker.{Asker}
 use Rattle.ua_conn.specs.client.Commands.{Act}
 use Rattle.ua_conn.specs.client.Reading.{client_reading_of, matched}
 use Rattle.ua_conn.specs.client.Sending.{Sent, sent_by, sent_after, sent_all, client_bytes}
-use Rattle.ua_conn.specs.client.Asking.{InFlight}
 use Rattle.ua_conn.specs.client.Held.{Event, Came, Told, Log, IsLog, commands_of, stream_of, fault_in, refused_in, ClientHeld, client_held, renews}
 use Rattle.ua_conn.specs.declared.client.config.ClientConfig.{ClientConfig}
 use Rattle.ua_conn.specs.declared.client.fault.ClientFault.{ClientFault}
@@ -24,10 +23,10 @@ pub record ClientShown : Type 0 where
   pub failed : Bool
 
 -- All this may have happened to the client. What it named in its Hello and its first number count no more.
-pub record Lived (flight : InFlight) (a : Asker) (log : Log) (shown : ClientShown) : Type 0 where
+pub record Lived (a : Asker) (log : Log) (shown : ClientShown) : Type 0 where
   pub config : a.config ≡ shown.config
   pub first : 1 ≤ a.first_sequence
-  pub accepted : IsLog flight a log
+  pub accepted : IsLog a log
   pub fine : fault_in a log ≡ None
   pub held_is : client_held a log ≡ shown.held
 
@@ -78,28 +77,28 @@ FailsBy a log x old new Ended = ⊥
 FailsBy a log x old new fault = Fails a log x old new fault
 
 -- whatever happened to a client that holds this
-abbrev pub HandsAll : InFlight → ClientShown → Piece → ClientShown → List Answer → Type 0
-HandsAll flight old x new given = (a : Asker) (log : Log) → Lived flight a log old → Hands a log x old new given
+abbrev pub HandsAll : ClientShown → Piece → ClientShown → List Answer → Type 0
+HandsAll old x new given = (a : Asker) (log : Log) → Lived a log old → Hands a log x old new given
 
-abbrev pub FailsAll : InFlight → ClientShown → Piece → ClientShown → ClientFault → Type 0
-FailsAll flight old x new fault = (a : Asker) (log : Log) → Lived flight a log old → FailsBy a log x old new fault
+abbrev pub FailsAll : ClientShown → Piece → ClientShown → ClientFault → Type 0
+FailsAll old x new fault = (a : Asker) (log : Log) → Lived a log old → FailsBy a log x old new fault
 
 -- ---- a command
 
 -- It was accepted: its frames are behind the output, and the client shows what is held then.
-pub record Accepts (flight : InFlight) (a : Asker) (log : Log) (now : ℕ) (act : Act) (old new : ClientShown) : Type 0 where
-  pub fine : refused_in flight a log act ≡ None
+pub record Accepts (a : Asker) (log : Log) (now : ℕ) (act : Act) (old new : ClientShown) : Type 0 where
+  pub fine : refused_in a log act ≡ None
   pub sends : SendsMore a log (Told now act) old.output new.output
   pub shows : new ≡ record old { held = client_held a (Told now act ∷ log); output = new.output }
 
-abbrev pub AcceptsAll : InFlight → ClientShown → ℕ → Act → ClientShown → Type 0
-AcceptsAll flight old now act new = (old.failed ≡ false) × ((a : Asker) (log : Log) → Lived flight a log old → Accepts flight a log now act old new)
+abbrev pub AcceptsAll : ClientShown → ℕ → Act → ClientShown → Type 0
+AcceptsAll old now act new = (old.failed ≡ false) × ((a : Asker) (log : Log) → Lived a log old → Accepts a log now act old new)
 
 -- the reason holds, and no earlier one
-abbrev pub RefusedBy : InFlight → ClientShown → Act → AskFault → Type 0
-RefusedBy flight old act refusals.NoMemory = old.failed ≡ false
-RefusedBy flight old act refusals.Ended = old.failed ≡ true
-RefusedBy flight old act fault = (old.failed ≡ false) × ((a : Asker) (log : Log) → Lived flight a log old → refused_in flight a log act ≡ Some fault)
+abbrev pub RefusedBy : ClientShown → Act → AskFault → Type 0
+RefusedBy old act refusals.NoMemory = old.failed ≡ false
+RefusedBy old act refusals.Ended = old.failed ≡ true
+RefusedBy old act fault = (old.failed ≡ false) × ((a : Asker) (log : Log) → Lived a log old → refused_in a log act ≡ Some fault)
 
 -- ---- readers
 

@@ -10,7 +10,7 @@ use Rattle.ua_conn.specs.client.Past.{client_known}
 use Rattle.ua_conn.specs.client.Faults.{client_fault_in_rest}
 use Rattle.ua_conn.specs.client.Reading.{ClientReading, client_fault_at, client_reading, client_fault, matched}
 use Rattle.ua_conn.specs.client.Sending.{client_bytes}
-use Rattle.ua_conn.specs.client.Asking.{InFlight, ask_fault}
+use Rattle.ua_conn.specs.client.Asking.{ask_fault}
 use Rattle.ua_conn.specs.declared.client.fault.ClientFault.{ClientFault}
 use Rattle.ua_conn.specs.declared.client.ask_fault.AskFault.TheVariants.{Ended}
 
@@ -36,9 +36,9 @@ abbrev pub ClientStopsFirst : Type 0
 ClientStopsFirst = (a : Asker) (cmds : Commands) (fs : List Frame) (rest : List ℕ) → ClientFirst a cmds [] fs rest (client_reading a cmds [] fs rest)
 
 -- once a client has met a fault, what comes later changes nothing, and no command is accepted
-abbrev pub ClientStaysStopped : InFlight → Type 0
-ClientStaysStopped flight = (a : Asker) (cmds : Commands) (s t : List TimedByte) (fault : ClientFault) → client_fault a cmds s ≡ Some fault →
+abbrev pub ClientStaysStopped : Type 0
+ClientStaysStopped = (a : Asker) (cmds : Commands) (s t : List TimedByte) (fault : ClientFault) → client_fault a cmds s ≡ Some fault →
     (client_fault a cmds (s ++ t) ≡ Some fault)
     × (matched a cmds (s ++ t) ≡ matched a cmds s)
     × (client_bytes a cmds (s ++ t) ≡ client_bytes a cmds s)
-    × ((act : Act) → ask_fault flight a cmds (s ++ t) act ≡ Some Ended)
+    × ((act : Act) → ask_fault a cmds (s ++ t) act ≡ Some Ended)

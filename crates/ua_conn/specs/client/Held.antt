@@ -11,7 +11,7 @@ use Rattle.ua_conn.specs.client.Commands.{Act, Commands, next_id, is_closed}
 use Rattle.ua_conn.specs.client.Pending.{pending_in, due_in}
 use Rattle.ua_conn.specs.client.Reading.{client_reading_of, client_fault, matched}
 use Rattle.ua_conn.specs.client.Sending.{sent_by, sent_after, client_bytes}
-use Rattle.ua_conn.specs.client.Asking.{InFlight, Standing, standing_by, refusal, ask_fault}
+use Rattle.ua_conn.specs.client.Asking.{Standing, standing_by, refusal, ask_fault}
 use Rattle.ua_conn.specs.declared.client.fault.ClientFault.{ClientFault}
 use Rattle.ua_conn.specs.declared.client.answer.Answer.{Answer}
 use Rattle.ua_conn.specs.declared.client.ask_fault.AskFault.{AskFault}
@@ -48,14 +48,14 @@ commands_of (Told now act ∷ log) = record { act = act; moment = max (latest_of
 abbrev pub fault_in : Asker → Log → Option ClientFault
 fault_in a log = client_fault a (commands_of log) (stream_of log)
 
-abbrev pub refused_in : InFlight → Asker → Log → Act → Option AskFault
-refused_in flight a log act = ask_fault flight a (commands_of log) (stream_of log) act
+abbrev pub refused_in : Asker → Log → Act → Option AskFault
+refused_in a log act = ask_fault a (commands_of log) (stream_of log) act
 
 -- each command was accepted when it was given
-abbrev pub IsLog : InFlight → Asker → Log → Type 0
-IsLog flight a [] = Unit {0}
-IsLog flight a (Came x ∷ log) = IsLog flight a log
-IsLog flight a (Told now act ∷ log) = (refused_in flight a log act ≡ None) × IsLog flight a log
+abbrev pub IsLog : Asker → Log → Type 0
+IsLog a [] = Unit {0}
+IsLog a (Came x ∷ log) = IsLog a log
+IsLog a (Told now act ∷ log) = (refused_in a log act ≡ None) × IsLog a log
 
 -- ---- what is held
 
@@ -118,14 +118,14 @@ pub record ClientGains (a : Asker) (log : Log) (e : Event) (g : ClientGain) : Ty
   pub after_is : g.fault ≡ None → client_held a (e ∷ log) ≡ g.after
 
 -- the client has not failed
-abbrev pub Stands : InFlight → Asker → Log → Type 0
-Stands flight a log = IsLog flight a log × (fault_in a log ≡ None)
+abbrev pub Stands : Asker → Log → Type 0
+Stands a log = IsLog a log × (fault_in a log ≡ None)
 
 -- The gains depend on the record and the event alone, and so does whether a command is refused.
-abbrev pub ClientByRecord : InFlight → Type 0
-ClientByRecord flight = (a : Asker) (h : ClientHeld) (e : Event) → 1 ≤ a.first_sequence →
-    (g : ClientGain) × ((log : Log) → IsLog flight a (e ∷ log) → fault_in a log ≡ None → client_held a log ≡ h → ClientGains a log e g)
+abbrev pub ClientByRecord : Type 0
+ClientByRecord = (a : Asker) (h : ClientHeld) (e : Event) → 1 ≤ a.first_sequence →
+    (g : ClientGain) × ((log : Log) → IsLog a (e ∷ log) → fault_in a log ≡ None → client_held a log ≡ h → ClientGains a log e g)
 
-abbrev pub RefusedByRecord : InFlight → Type 0
-RefusedByRecord flight = (a : Asker) (log : Log) (act : Act) → Stands flight a log →
-    refused_in flight a log act ≡ refusal flight (standing_of (client_held a log)) act
+abbrev pub RefusedByRecord : Type 0
+RefusedByRecord = (a : Asker) (log : Log) (act : Act) → Stands a log →
+    refused_in a log act ≡ refusal (standing_of (client_held a log)) act

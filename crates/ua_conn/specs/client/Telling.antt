@@ -1,9 +1,9 @@
 -- What a command does to a client, by what the client shows: the reason against it, and what is sent and held then.
-use Rattle.std.specs.Prelude.{ℕ, Bool, List, [], ◌∷◌, ◌++◌, Option, Some, None, if◌then◌else◌}
+use Rattle.std.specs.Prelude.{ℕ, Bool, List, [], ◌∷◌, ◌++◌, Option, Some, if◌then◌else◌}
 use Rattle.ua_service.specs.declared.request.Request.{Request}
 use Rattle.ua_conn.specs.client.Commands.{Act}
 use Rattle.ua_conn.specs.client.Machine.{Awaiting}
-use Rattle.ua_conn.specs.client.Asking.{refusal, in_flight}
+use Rattle.ua_conn.specs.client.Asking.{refusal}
 use Rattle.ua_conn.specs.client.Held.{standing_of}
 use Rattle.ua_conn.specs.client.Feeding.{ClientShown}
 use Rattle.ua_conn.specs.client.Taking.{ClientRunning}
@@ -19,7 +19,7 @@ type_of questions.Renew = 1
 
 -- the first reason against the command
 abbrev pub against : ClientShown → Act → Option AskFault
-against shown act = if shown.failed then Some Ended else refusal in_flight (standing_of shown.held) act
+against shown act = if shown.failed then Some Ended else refusal (standing_of shown.held) act
 
 -- ---- a connection
 

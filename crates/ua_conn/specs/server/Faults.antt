@@ -62,9 +62,6 @@ chunk_rows_by site k f usable =
     (is_none (chunk_of (fields_of f.bytes)), 0x80070000)
     ∷ admit_rows_by (channel_of site k) (carried f) usable
 
-abbrev pub chunk_rows : Site → Known → Frame → List Row
-chunk_rows site k f = chunk_rows_by site k f (names_usable k f)
-
 -- Other request id, message too large, and of message body an abort's; then, of message body, a whole request's.
 abbrev pub message_rows : Site → Known → ℕ → Chunk → List Row
 message_rows site k flag chunk =

@@ -1,6 +1,6 @@
 -- What one more piece does to a server, by the definitions of the whole.
-use Rattle.std.specs.Prelude.{◌≡◌, ℕ, ◌<◌, ◌≤◌, ◌^◌, Bool, true, false, List, [], ◌∷◌, ◌++◌, map, take, drop, length, Option, Some, None}
-use Rattle.ua_frame.specs.Streams.{Piece, TimedByte, IsFrame, at, plain, timed, rest_of}
+use Rattle.std.specs.Prelude.{◌≡◌, ℕ, ◌<◌, ◌≤◌, ◌^◌, Bool, true, false, List, [], ◌∷◌, ◌++◌, map, take, length, Option, Some, None}
+use Rattle.ua_frame.specs.Streams.{Piece, TimedByte, IsFrame, at, plain, timed, size_of, rest_of}
 use Rattle.ua_frame.specs.Layout.{Frame}
 use Rattle.ua_service.specs.declared.request.Request.{Request}
 use Rattle.ua_conn.specs.server.Site.{Site}
@@ -36,7 +36,7 @@ pub data IsRefused (site : Site) (k : Known) (now : ℕ) (bytes : List ℕ) (sta
 -- what the front of the bytes did, come at one moment
 abbrev pub Steps : Running → Running → ℕ → List ℕ → Gained → Gained → Step → Type 0
 Steps old new now bytes had has steps.Waits = BeginsNoFrame bytes × (fault_in_rest old.known bytes ≡ None) × (new ≡ old) × (has ≡ had)
-Steps old new now bytes had has (steps.GoesOn n) = BeginsFrame n bytes × Stands old new (first_frame now n bytes) had has
+Steps old new now bytes had has steps.GoesOn = BeginsFrame (size_of bytes) bytes × Stands old new (first_frame now (size_of bytes) bytes) had has
 Steps old new now bytes had has steps.Closed = (n : ℕ) × BeginsFrame n bytes × Closes old (first_frame now n bytes) had has
 Steps old new now bytes had has (steps.Refused status) = IsRefused old.site old.known now bytes status × (has ≡ had)
 
@@ -52,33 +52,32 @@ pub record SaysPart (site : Site) (next : ℕ) (rs : List Reply) (old new : List
 abbrev pub brought : Running → ℕ → List ℕ → Run
 brought r now bytes = run_on r.site r.known now bytes
 
--- all that they bring
-pub record Hears (old new : Running) (now : ℕ) (bytes : List ℕ) (had has : Gained) (used : ℕ) (came : Option End) : Type 0 where
+-- all that they bring, and what is left of them
+pub record Hears (old new : Running) (now : ℕ) (bytes : List ℕ) (had has : Gained) (left : List ℕ) (came : Option End) : Type 0 where
   pub said : has.bytes ≡ had.bytes ++ spelled_next old.site old.next (brought old now bytes).replies
   pub asked : has.asked ≡ had.asked ++ (brought old now bytes).asked
   pub came_is : came ≡ stop (brought old now bytes).ending
   pub site : came ≡ None → new.site ≡ old.site
   pub known : came ≡ None → new.known ≡ (brought old now bytes).known
   pub number : came ≡ None → new.next ≡ next_after old.next (brought old now bytes).replies
-  pub rest : came ≡ None → drop used bytes ≡ plain (rest_of (map (at now) bytes))
+  pub rest : came ≡ None → left ≡ plain (rest_of (map (at now) bytes))
 
 abbrev pub HearsPart : Running → ℕ → List ℕ → List ℕ → List ℕ → Type 0
 HearsPart old now bytes had has = SaysPart old.site old.next (brought old now bytes).replies had has
 
--- so many bytes are used, and the others bring what is left of all that they bring together
-pub record Hearing (old new : Running) (now : ℕ) (bytes : List ℕ) (had has : Gained) (used : ℕ) : Type 0 where
-  pub within : used ≤ length bytes
+-- these bytes are left, and bring what is left of all that the bytes bring together
+pub record Hearing (old new : Running) (now : ℕ) (bytes : List ℕ) (had has : Gained) (left : List ℕ) : Type 0 where
   pub said : List Reply
   pub hands : List Request
-  pub brings : (brought old now bytes).replies ≡ said ++ (brought new now (drop used bytes)).replies
-  pub asks : (brought old now bytes).asked ≡ hands ++ (brought new now (drop used bytes)).asked
+  pub brings : (brought old now bytes).replies ≡ said ++ (brought new now left).replies
+  pub asks : (brought old now bytes).asked ≡ hands ++ (brought new now left).asked
   pub added : has.bytes ≡ had.bytes ++ spelled_next old.site old.next said
   pub asked : has.asked ≡ had.asked ++ hands
-  pub ending : (brought old now bytes).ending ≡ (brought new now (drop used bytes)).ending
+  pub ending : (brought old now bytes).ending ≡ (brought new now left).ending
   pub site : new.site ≡ old.site
-  pub known : (brought old now bytes).known ≡ (brought new now (drop used bytes)).known
+  pub known : (brought old now bytes).known ≡ (brought new now left).known
   pub number : new.next ≡ next_after old.next said
-  pub rest : plain (rest_of (map (at now) bytes)) ≡ plain (rest_of (map (at now) (drop used bytes)))
+  pub rest : plain (rest_of (map (at now) bytes)) ≡ plain (rest_of (map (at now) left))
 
 -- ---- a piece
 

@@ -1,9 +1,9 @@
 -- What a connection is made of, and the ranges that its numbers keep to.
-use Rattle.std.specs.Prelude.{◌≡◌, ℕ, ◌<◌, ◌≤◌, ◌^◌, false, Option, IfSome}
+use Rattle.std.specs.Prelude.{◌≡◌, ℕ, ◌<◌, ◌≤◌, ◌^◌, false, length, Option, IfSome}
 use Rattle.ua_frame.specs.declared.limits.Limits.{Limits}
 use Rattle.ua_chunk.specs.Gathered.{Gathered}
 use Rattle.ua_chunk.specs.NumberLaws.{IsNumber}
-use Rattle.ua_chunk.specs.Half.{Half}
+use Rattle.ua_chunk.specs.Half.{Half, body_of}
 use Rattle.ua_channel.specs.Channel.{Shown}
 use Rattle.ua_disco.specs.Configuration.{Configuration}
 use Rattle.ua_conn.specs.Past.{Agreed, Known}
@@ -14,16 +14,20 @@ pub record IsBuffer (n : ℕ) : Type 0 where
   pub least : 8192 ≤ n
   pub most : n ≤ 1048576
 
--- what is received so far, between two frames
+-- what is received so far, between two frames, within the limit on a message
 pub record IsBetween (limits : Limits) (half : Gathered) : Type 0 where
   pub max_message : half.max_message ≡ limits.max_message
   pub max_chunks : half.max_chunks ≡ limits.max_chunks
   pub whole : half.whole ≡ false
   pub short : half.max_message < 2 ^ 32
+  pub bytes : length (body_of half.half) ≤ half.max_message
 
--- the frames that the client takes hold a header, the numbers of a chunk and a part of an answer
+-- The frames that the client takes hold a header, the numbers of a chunk and a part of an answer, and those that it
+-- sends fit the server's buffer.
 pub record IsConnection (limits : Limits) (channel id : ℕ) (agreed : Option Agreed) (half : Gathered) (next : ℕ) : Type 0 where
   pub same : channel ≡ id
+  pub buffer : IsBuffer limits.receive
+  pub receive : IfSome agreed (λ a. a.ack.receive ≤ limits.receive)
   pub send : IfSome agreed (λ a. IsBuffer a.ack.send)
   pub between : IsBetween limits half
   pub number : IsNumber next

@@ -7,7 +7,7 @@ ghost use Rattle.ua_chunk.specs.Numbers.{number_after};
 ghost use Rattle.ua_chunk.specs.Written.{message_frames};
 ghost use Rattle.ua_channel.specs.Token.{newest_id};
 ghost use Rattle.ua_service.specs.Requests.{canon_request};
-ghost use Rattle.ua_conn.specs.client.Asking.{in_flight, greatest_part, has_token_of, is_too_large as passes_limits};
+ghost use Rattle.ua_conn.specs.client.Asking.{greatest_part, has_token_of, is_too_large as passes_limits};
 ghost use Rattle.ua_conn.specs.client.Commands as commands;
 ghost use Rattle.ua_conn.specs.client.Held.{standing_of};
 ghost use Rattle.ua_conn.specs.client.Machine.{waiting_under};
@@ -213,9 +213,9 @@ impl Client {
         request: Request,
         part_limit: u32,
     ) -> Result<u32, (AskFault, Request)>
-        ensures accepted { IfOk result (λ id. AcceptsAll in_flight self.old (counted now) (commands.Ask request part_limit) self.new) }
+        ensures accepted { IfOk result (λ id. AcceptsAll self.old (counted now) (commands.Ask request part_limit) self.new) }
         ensures id { IfOk result (λ id. id ≡ self.old.held.next_id) }
-        ensures refused { IfErr result (λ back. RefusedBy in_flight self.old (commands.Ask request part_limit) back.0) }
+        ensures refused { IfErr result (λ back. RefusedBy self.old (commands.Ask request part_limit) back.0) }
         ensures back { IfErr result (λ back. back.1 ≡ request) }
         ensures unchanged { OnErr result (self.new ≡ self.old) }
     {
@@ -241,8 +241,8 @@ impl Client {
     /// `Err` is the first reason that holds, in this order: `Ended`, `NotOpen`, `RenewPending`, `IdsSpent`; or
     /// `NoMemory`. The client is as it was. OPC 10000-4, 5.6.2.
     pub fn renew(&mut self, now: i64) -> Result<(), AskFault>
-        ensures accepted { IfOk result (λ _. AcceptsAll in_flight self.old (counted now) commands.Renew self.new) }
-        ensures refused { IfErr result (λ fault. RefusedBy in_flight self.old commands.Renew fault) }
+        ensures accepted { IfOk result (λ _. AcceptsAll self.old (counted now) commands.Renew self.new) }
+        ensures refused { IfErr result (λ fault. RefusedBy self.old commands.Renew fault) }
         ensures unchanged { OnErr result (self.new ≡ self.old) }
     {
         if let Some(fault) = self.against_renewing() {
@@ -261,8 +261,8 @@ impl Client {
     /// `Err` is the first reason that holds, in this order: `Ended`, `NotOpen`, `RenewPending`, `StillPending`,
     /// `IdsSpent`; or `NoMemory`. The client is as it was. OPC 10000-4, 5.6.3.
     pub fn close(&mut self, now: i64) -> Result<(), AskFault>
-        ensures accepted { IfOk result (λ _. AcceptsAll in_flight self.old (counted now) commands.Close self.new) }
-        ensures refused { IfErr result (λ fault. RefusedBy in_flight self.old commands.Close fault) }
+        ensures accepted { IfOk result (λ _. AcceptsAll self.old (counted now) commands.Close self.new) }
+        ensures refused { IfErr result (λ fault. RefusedBy self.old commands.Close fault) }
         ensures unchanged { OnErr result (self.new ≡ self.old) }
     {
         if let Some(fault) = self.against_closing() {

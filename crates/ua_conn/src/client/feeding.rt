@@ -2,7 +2,6 @@
 
 ghost use Rattle.std.specs.Prelude.{◌≡◌, ◌↔◌, true, false, IfOk, IfErr, OnErr, IsErrOf};
 ghost use Rattle.ua_frame.specs.Streams.{moment_of as counted};
-ghost use Rattle.ua_conn.specs.client.Asking.{in_flight};
 ghost use Rattle.ua_conn.specs.client.Feeding.{HandsAll, FailsAll};
 
 use crate::bytes::remove_front;
@@ -21,8 +20,8 @@ impl Client {
     /// then gained whole frames that begin that gain. After each of these the client takes no more. `Ended` says that
     /// it took no more already; nothing has changed. OPC 10000-6, 6.7 and 7.1.2; OPC 10000-4, 5.6.2 and 7.35.
     pub fn feed(&mut self, now: i64, piece: &[u8]) -> Result<Vec<Answer>, ClientFault>
-        ensures hands { IfOk result (λ answers. HandsAll in_flight self.old (record { moment = counted now; bytes = piece.now }) self.new answers.items) }
-        ensures fails { IfErr result (λ fault. self.old.failed ≡ false → FailsAll in_flight self.old (record { moment = counted now; bytes = piece.now }) self.new fault) }
+        ensures hands { IfOk result (λ answers. HandsAll self.old (record { moment = counted now; bytes = piece.now }) self.new answers.items) }
+        ensures fails { IfErr result (λ fault. self.old.failed ≡ false → FailsAll self.old (record { moment = counted now; bytes = piece.now }) self.new fault) }
         ensures failed { OnErr result (self.new.failed ≡ true) }
         ensures ended { IsErrOf result ClientFault.Ended ↔ (self.old.failed ≡ true) }
         ensures unchanged { self.old.failed ≡ true → self.new ≡ self.old }

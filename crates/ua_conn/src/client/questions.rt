@@ -2,11 +2,12 @@
 
 ghost use Rattle.std.specs.Prelude.{◌≡◌, ◌<◌, ◌^◌, ◌++◌, true, pos, is_ok, if◌then◌else◌, IfOk};
 ghost use Rattle.ua_value.specs.Node.{two_byte};
+ghost use Rattle.ua_service.specs.Headers.{request_header_at};
 ghost use Rattle.ua_chunk.specs.Numbers.{number_after};
 ghost use Rattle.ua_chunk.specs.Written.{open_frame, close_frame};
 ghost use Rattle.ua_channel.specs.Token.{newest_id};
 ghost use Rattle.ua_conn.specs.client.Asking.{has_token_of};
-ghost use Rattle.ua_conn.specs.client.Questions.{request_header_at, open_asked_body, close_asked_body};
+ghost use Rattle.ua_conn.specs.client.Questions.{open_asked_body, close_asked_body};
 ghost use Rattle.ua_conn.specs.client.Telling.{type_of, numbered_to, waiting_to, waits_open};
 
 use crate::client::connection::Connection;

@@ -15,11 +15,9 @@ use crate::client::answer::Answer;
 use crate::client::connection::Connection;
 use crate::client::fault::ClientFault;
 use crate::client::taking::error::server_said;
+use crate::limits::GREATEST_FIRST_FRAME;
 use ua_frame::status::BAD_TCP_MESSAGE_TYPE_INVALID;
 use ua_frame::{Frame, Kind};
-
-/// The greatest frame before an Acknowledge. OPC 10000-6, 7.1.2.3.
-const GREATEST_FIRST_FRAME: u32 = 8192;
 
 impl Connection {
     /// Bytes of the longest frame that is taken next.

@@ -7,7 +7,6 @@ ghost use Rattle.ua_conn.specs.BothEnds.{IsConfig};
 ghost use Rattle.ua_conn.specs.Conversing.{setup_of};
 ghost use Rattle.ua_conn.specs.Between.{Between, Tells, is_memory, Meets, Served, Heard, run_of};
 ghost use Rattle.ua_conn.specs.Story.{Setup as Both, World, begun, happens, told};
-ghost use Rattle.ua_conn.specs.client.Asking.{in_flight};
 ghost use Rattle.ua_conn.specs.client.Commands as commands;
 ghost use Rattle.ua_conn.specs.declared.schedule.Step.TheVariants as steps;
 
@@ -192,7 +191,7 @@ impl<'a> Ends<'a> {
 
     /// Tells the client to ask a request.
     fn ask(&mut self, request: &Request, part_limit: u32) -> Result<(), NoMemory>
-        ensures { OnOk result ((s : Both) (w : World) → Between s w (run_of self.old) → Between s (told in_flight s w (commands.Ask request.now part_limit)) (run_of self.new)) }
+        ensures { OnOk result ((s : Both) (w : World) → Between s w (run_of self.old) → Between s (told s w (commands.Ask request.now part_limit)) (run_of self.new)) }
     {
         let now = self.clock;
         if ask(&mut self.client, now, request, part_limit)? {
@@ -204,7 +203,7 @@ impl<'a> Ends<'a> {
 
     /// Tells the client to renew its token.
     fn renew(&mut self) -> Result<(), NoMemory>
-        ensures { OnOk result ((s : Both) (w : World) → Between s w (run_of self.old) → Between s (told in_flight s w commands.Renew) (run_of self.new)) }
+        ensures { OnOk result ((s : Both) (w : World) → Between s w (run_of self.old) → Between s (told s w commands.Renew) (run_of self.new)) }
     {
         let now = self.clock;
         if renew(&mut self.client, now)? {
@@ -215,7 +214,7 @@ impl<'a> Ends<'a> {
 
     /// Tells the client to close the channel.
     fn close(&mut self) -> Result<(), NoMemory>
-        ensures { OnOk result ((s : Both) (w : World) → Between s w (run_of self.old) → Between s (told in_flight s w commands.Close) (run_of self.new)) }
+        ensures { OnOk result ((s : Both) (w : World) → Between s w (run_of self.old) → Between s (told s w commands.Close) (run_of self.new)) }
     {
         let now = self.clock;
         if close(&mut self.client, now)? {
@@ -226,7 +225,7 @@ impl<'a> Ends<'a> {
 
     /// Lets time pass. A clock stops at the greatest number that it can show.
     fn tick(&mut self, n: u64)
-        ensures { (s : Both) (w : World) → Between s w (run_of self.old) → Between s (happens in_flight s w (steps.Tick n)) (run_of self.new) }
+        ensures { (s : Both) (w : World) → Between s w (run_of self.old) → Between s (happens s w (steps.Tick n)) (run_of self.new) }
     {
         let clock = self.clock;
         self.clock = clock.saturating_add_unsigned(n);
@@ -234,7 +233,7 @@ impl<'a> Ends<'a> {
 
     /// Delivers at most `n` bytes to the server.
     fn up(&mut self, n: usize) -> Result<(), NoMemory>
-        ensures { OnOk result ((s : Both) (w : World) → Between s w (run_of self.old) → Between s (happens in_flight s w (steps.Up n)) (run_of self.new)) }
+        ensures { OnOk result ((s : Both) (w : World) → Between s w (run_of self.old) → Between s (happens s w (steps.Up n)) (run_of self.new)) }
     {
         let now = self.clock;
         let piece = piece(&self.story.up, self.up_to, n);
@@ -251,7 +250,7 @@ impl<'a> Ends<'a> {
 
     /// Delivers at most `n` bytes to the client.
     fn down(&mut self, n: usize) -> Result<(), NoMemory>
-        ensures { OnOk result ((s : Both) (w : World) → Between s w (run_of self.old) → Between s (happens in_flight s w (steps.Down n)) (run_of self.new)) }
+        ensures { OnOk result ((s : Both) (w : World) → Between s w (run_of self.old) → Between s (happens s w (steps.Down n)) (run_of self.new)) }
     {
         let now = self.clock;
         let piece = piece(&self.story.down, self.down_to, n);
@@ -268,7 +267,7 @@ impl<'a> Ends<'a> {
 
     /// Makes one step.
     pub(crate) fn step(&mut self, step: &Step) -> Result<(), NoMemory>
-        ensures { OnOk result ((s : Both) (w : World) → Between s w (run_of self.old) → Between s (happens in_flight s w step.now) (run_of self.new)) }
+        ensures { OnOk result ((s : Both) (w : World) → Between s w (run_of self.old) → Between s (happens s w step.now) (run_of self.new)) }
     {
         match step {
             Step::Ask(request, part_limit) => self.ask(request, *part_limit),

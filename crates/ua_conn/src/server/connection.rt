@@ -1,8 +1,9 @@
 //! One connection of a server, a whole frame at a time.
 
-ghost use Rattle.std.specs.Prelude.{◌≡◌, ◌≤◌, ◌<◌, ◌^◌, ℕ, [], None, List, IfOk, OnErr, Some};
+ghost use Rattle.std.specs.Prelude.{◌≡◌, ◌≤◌, ◌<◌, ◌^◌, ℕ, [], None, List, length, IfOk, OnErr, Some};
 ghost use Rattle.ua_frame.specs.Layout.{IsFrameOf};
 ghost use Rattle.ua_frame.specs.HeaderRows.{header_fault};
+ghost use Rattle.ua_chunk.specs.Half.{body_of};
 ghost use Rattle.ua_conn.specs.server.Held.{held};
 ghost use Rattle.ua_conn.specs.server.Faults.{greatest_frame, is_allowed};
 ghost use Rattle.ua_conn.specs.server.Settled.{settled};
@@ -14,6 +15,7 @@ mod hello;
 mod message;
 mod opening;
 
+use crate::limits::GREATEST_FIRST_FRAME;
 use crate::server::agreed::Agreed;
 use crate::server::fault::Fault;
 use std::alloc::{AllocError, Global};
@@ -25,9 +27,6 @@ use ua_frame::status::BAD_TCP_MESSAGE_TYPE_INVALID;
 use ua_frame::{Frame, Kind};
 use ua_service::Request;
 use ua_value::NoMemory;
-
-/// The greatest frame before an Acknowledge. OPC 10000-6, 7.1.2.3.
-const GREATEST_FIRST_FRAME: u32 = 8192;
 
 /// What a whole frame did.
 #[derive(Clone, Copy)]
@@ -88,12 +87,20 @@ impl<'a> Connection<'a> {
 
     /// Bytes of the longest frame that is taken next.
     pub(crate) fn greatest_frame(&self) -> u32
-        ensures { result ≡ greatest_frame self.now.known.limits }
+        ensures is { result ≡ greatest_frame self.now.known.limits }
+        ensures within { result ≤ self.now.site.settings.limits.receive }
     {
         match self.agreed {
             None => GREATEST_FIRST_FRAME,
             Some(agreed) => agreed.ack.receive,
         }
+    }
+
+    /// What is kept of a message is within the server's limit. A call does nothing: it is for proofs.
+    pub(crate) fn keeps_limits(&self)
+        ensures { length (body_of self.now.known.half) ≤ self.now.site.settings.limits.max_message }
+    {
+        let _ = &self.half;
     }
 
     /// Whether a frame of this type may come next: first a Hello, then an OPN, then MSG, OPN and CLO.
@@ -127,6 +134,7 @@ impl<'a> Connection<'a> {
             Takes self.old self.new (record { bytes = bytes; moment = now }) (record { bytes = out.old.items; asked = asked.old.items }) (record { bytes = out.new.items; asked = asked.new.items }) taken) }
         ensures part { OnErr result (out.new.items ≡ out.old.items) }
         ensures moment { self.new.moment ≤ now }
+        ensures site { self.new.site ≡ self.old.site }
     {
         let kind = frame.kind();
         if !self.allows(kind) {

@@ -1,6 +1,5 @@
-use Rattle.ua_conn.specs.client.Asking.{in_flight}
 use Rattle.ua_conn.proofs.BothEnds.AnsweredLemmas as law
 use Rattle.ua_conn.proofs.laws.answered.Goals as goal
 
 pub returns : goal.returns
-returns c = law.answered_law in_flight
+returns c = law.answered_law

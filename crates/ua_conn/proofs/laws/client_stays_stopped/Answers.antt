@@ -1,6 +1,5 @@
-use Rattle.ua_conn.specs.client.Asking.{in_flight}
 use Rattle.ua_conn.proofs.ClientEnd.FirstFaultLemmas as law
 use Rattle.ua_conn.proofs.laws.client_stays_stopped.Goals as goal
 
 pub returns : goal.returns
-returns c = law.stays_stopped in_flight
+returns c = law.stays_stopped

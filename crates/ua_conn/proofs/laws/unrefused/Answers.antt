@@ -1,6 +1,5 @@
-use Rattle.ua_conn.specs.client.Asking.{in_flight}
 use Rattle.ua_conn.proofs.BothEnds.UnrefusedLemmas as law
 use Rattle.ua_conn.proofs.laws.unrefused.Goals as goal
 
 pub returns : goal.returns
-returns c = law.unrefused_law in_flight
+returns c = law.unrefused_law

@@ -13,7 +13,6 @@ use crate::client::config::ClientConfig;
 use crate::client::connection::{Connection, FIRST_ID};
 use crate::client::fault::ClientFault;
 use crate::client::questions::{Asks, VERSION};
-use std::alloc::Global;
 use ua_frame::status::BAD_TCP_NOT_ENOUGH_RESOURCES;
 use ua_frame::{Ack, Frame, Hello, Kind, acceptable};
 use ua_value::UaString;
@@ -36,12 +35,12 @@ fn hello_of(config: &ClientConfig) -> Hello
 }
 
 /// The Acknowledge that a frame is, where it is acceptable.
-fn agree(alloc: Global, config: &ClientConfig, frame: &Frame) -> Result<Ack, ClientFault>
+fn agree(config: &ClientConfig, frame: &Frame) -> Result<Ack, ClientFault>
     requires kind { frame.now.kind ≡ Kind.Acknowledge }
     requires buffer { IsBuffer config.now.buffer }
     ensures { Judges (broken (acknowledge_rows (asker_with config.now) (acknowledge_of frame.now.fields))) (λ ack. (acknowledge_of frame.now.fields ≡ Some ack) × IsAccepted ack) result }
 {
-    let ack = Ack::read(alloc, frame)?;
+    let ack = Ack::read(frame)?;
     if !acceptable(&hello_of(config), &ack) {
         return Err(ClientFault::Broken(BAD_TCP_NOT_ENOUGH_RESOURCES));
     }
@@ -62,7 +61,7 @@ impl Connection {
             (record { bytes = out.old.items; answers = answers }) (record { bytes = out.new.items; answers = answers }) result }
         ensures moment { self.new.moment ≡ self.old.moment }
     {
-        let ack = agree(self.alloc, &self.config, frame)?;
+        let ack = agree(&self.config, frame)?;
         self.ack = Some(ack);
         self.say_open(NO_CHANNEL, FIRST_ID, Asks::Issue, now, out)?;
         Ok(())

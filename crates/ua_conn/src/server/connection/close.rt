@@ -20,6 +20,7 @@ impl<'a> Connection<'a> {
         ensures does { (bytes : List ℕ) (asked : List Asked) → Does (close_effect self.old.site self.old.known now (chunk_of frame.now.fields)) self.old self.new
             (record { bytes = bytes; asked = asked }) (record { bytes = bytes; asked = asked }) result }
         ensures moment { self.new.moment ≤ now }
+        ensures site { self.new.site ≡ self.old.site }
     {
         let chunk = heard(&mut self.channel, frame, now)?;
         let _request = read_close(self.alloc, chunk.body())?;

@@ -1,6 +1,6 @@
 //! The first frame.
 
-ghost use Rattle.std.specs.Prelude.{◌≡◌, Some, List, option_map};
+ghost use Rattle.std.specs.Prelude.{◌≡◌, ◌≤◌, Some, List, option_map};
 ghost use Rattle.ua_frame.specs.Hello.{hello_of, hello_rows};
 ghost use Rattle.ua_service.specs.declared.request.Request.{Request as Asked};
 ghost use Rattle.ua_disco.specs.Bounds.{IsLimits};
@@ -18,7 +18,7 @@ use ua_frame::{Frame, Hello, Kind, Limits, negotiate};
 fn agree(alloc: Global, limits: &Limits, frame: &Frame) -> Result<Agreed, Fault>
     requires kind { frame.now.kind ≡ Kind.Hello }
     requires ranges { IsLimits limits.now }
-    ensures { Judges (hello_rows (hello_of frame.now.fields)) (λ a. (option_map (agreed_by limits.now) (hello_of frame.now.fields) ≡ Some a) × IsBuffer a.ack.send) result }
+    ensures { Judges (hello_rows (hello_of frame.now.fields)) (λ a. (option_map (agreed_by limits.now) (hello_of frame.now.fields) ≡ Some a) × IsBuffer a.ack.send × (a.ack.receive ≤ limits.now.receive)) result }
 {
     let hello = Hello::read(alloc, frame)?;
     let ack = negotiate(&hello, limits)?;
@@ -36,6 +36,7 @@ impl<'a> Connection<'a> {
         ensures does { (asked : List Asked) → Does (hello_effect self.old.site self.old.known (hello_of frame.now.fields)) self.old self.new
             (record { bytes = out.old.items; asked = asked }) (record { bytes = out.new.items; asked = asked }) result }
         ensures moment { self.new.moment ≡ self.old.moment }
+        ensures site { self.new.site ≡ self.old.site }
     {
         let limits = self.settings.limits();
         let agreed = agree(self.alloc, &limits, frame)?;

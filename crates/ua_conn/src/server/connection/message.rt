@@ -2,6 +2,7 @@
 
 ghost use Rattle.std.specs.Prelude.{◌≡◌, ◌<◌, ◌≤◌, ◌^◌, ◌++◌, ◌∷◌, [], length, false, is_ok, if◌then◌else◌, IfOk, OnOk, OnErr};
 ghost use Rattle.ua_frame.specs.declared.kind.Kind.TheVariants as kinds;
+ghost use Rattle.ua_chunk.specs.Half.{body_of};
 ghost use Rattle.ua_chunk.specs.Layout.{chunk_of};
 ghost use Rattle.ua_chunk.specs.Numbers.{number_after};
 ghost use Rattle.ua_chunk.specs.NumberLaws.{IsNumber};
@@ -35,6 +36,7 @@ fn gather(alloc: Global, half: &mut Assembly, chunk: &Chunk) -> Result<Option<Re
     ensures whole { half.new.whole ≡ false }
     ensures max_message { half.new.max_message ≡ half.old.max_message }
     ensures max_chunks { half.new.max_chunks ≡ half.old.max_chunks }
+    ensures bytes { length (body_of half.new.half) ≤ half.new.max_message }
 {
     if half.add(chunk)? != Added::Whole {
         return Ok(None);
@@ -116,6 +118,7 @@ impl<'a> Connection<'a> {
         ensures does { Does (message_effect self.old.site self.old.known now frame.now.flag (chunk_of frame.now.fields)) self.old self.new
             (record { bytes = out.old.items; asked = asked.old.items }) (record { bytes = out.new.items; asked = asked.new.items }) result }
         ensures moment { self.new.moment ≤ now }
+        ensures site { self.new.site ≡ self.old.site }
     {
         let chunk = heard(&mut self.channel, frame, now)?;
         let Some(request) = gather(self.alloc, &mut self.half, &chunk)? else {

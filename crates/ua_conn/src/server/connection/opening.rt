@@ -84,7 +84,7 @@ fn opened_body(alloc: Global, channel: u32, granted: Granted, now: u64) -> Resul
     ensures { IfOk result (λ body. body.items ≡ opened_body granted.handle now channel (record { id = granted.token; issued = now; lifetime = granted.lifetime })) }
 {
     let response = OpenResponse {
-        header: response_header(alloc, now as i64, granted.handle, GOOD),
+        header: response_header(now as i64, granted.handle, GOOD),
         server_protocol_version: VERSION,
         channel_id: channel,
         token_id: granted.token,
@@ -104,6 +104,7 @@ impl<'a> Connection<'a> {
         ensures does { (asked : List Asked) → Does (open_effect self.old.site self.old.known now (open_chunk_of frame.now.fields)) self.old self.new
             (record { bytes = out.old.items; asked = asked }) (record { bytes = out.new.items; asked = asked }) result }
         ensures moment { self.new.moment ≤ now }
+        ensures site { self.new.site ≡ self.old.site }
     {
         let opening = opening_of(frame)?;
         admit(&mut self.channel, &self.half, &opening)?;

@@ -1,8 +1,7 @@
-use Rattle.std.proofs.Common.{w64, None, ◌≡◌, ◌+◌, ◌≤◌, max, sym, ap, subst, ◌∙◌, arith}
+use Rattle.std.proofs.Common.{w64, None, ◌≡◌, ◌+◌, max, sym, ap, subst, ◌∙◌, arith}
 use Rattle.std.proofs.lemmas.Int.{to_z-of_z}
 use Rattle.ua_frame.specs.Streams.{moment_of}
 use Rattle.ua_conn.specs.client.Commands.{Ask}
-use Rattle.ua_conn.specs.client.Asking.{in_flight}
 use Rattle.ua_conn.specs.client.Feeding.{ClientShown, AcceptsAll}
 use Rattle.ua_conn.specs.client.Telling.{against, shown_of}
 use Rattle.ua_conn.proofs.ClientEnd.TellingLemmas.{refused, asks}
@@ -24,6 +23,6 @@ returns-in-Ok-clause-accepted c =
     let moment : c.later-self-inside.result ≡ max s.moment now = c.later-self-inside.ensures.moment ∙ ap (λ z. max s.moment (moment_of z)) (to_z-of_z w64 c.args.now c.ranges.now) in
     let said = c.in-Ok.ensures.said in
     rw (← c.self.view_is)
-    (subst (λ m. AcceptsAll in_flight (shown_of s.connection s.closed s.next_id s.moment s.rest.items s.output.items s.failed) now act (shown_of c.ask.new.self s.closed (s.next_id + 1) m s.rest.items c.ask.new.out.items s.failed)) (sym moment)
+    (subst (λ m. AcceptsAll (shown_of s.connection s.closed s.next_id s.moment s.rest.items s.output.items s.failed) now act (shown_of c.ask.new.self s.closed (s.next_id + 1) m s.rest.items c.ask.new.out.items s.failed)) (sym moment)
     (asks s.connection c.ask.new.self s.closed s.failed s.next_id s.moment now c.args.part_limit s.rest.items s.output.items c.ask.new.out.items c.args.request
     (subst (λ (v : ClientShown). against v (Ask c.args.request c.args.part_limit) ≡ None) (sym c.self.view_is) (sym c.in_default.ensures.reason)) said c.in-Ok.ensures.after))

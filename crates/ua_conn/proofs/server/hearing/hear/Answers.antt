@@ -1,55 +1,54 @@
-use Rattle.std.proofs.Common.{arith, Result, Ok, Err, OnErr}
-use Rattle.std.proofs.lemmas.List.{take_rest}
-use Rattle.ua_conn.proofs.ServerEnd.FeedLemmas.{starts, waits, closes, refuses, goes_on, part, part_refused, falls}
+use Rattle.std.proofs.Common.{arith, length, ap, ◌∙◌}
+use Rattle.std.proofs.lemmas.List.{length-drop, take_rest}
+use Rattle.ua_frame.specs.Streams.{size_of}
+use Rattle.ua_conn.proofs.BufferedLemmas.{IsPush, pushed_on, push_within, nothing_behind}
+use Rattle.ua_conn.proofs.ServerEnd.FeedLemmas.{starts_with, waits_whole, reads_on, closes, refuses, goes_on}
 use Rattle.ua_conn.proofs.server.hearing.hear.Goals as goal
 
-on_err : {A E : Type 0} {P : Type 0} (r : Result A E) → P → OnErr r P
-on_err (Ok a) p = tt
-on_err (Err e) p = p
-
 pub frames-init : goal.frames-init
-frames-init c = record { heard = starts c.args.connection.now c.args.now c.args.bytes.now _; within = omega arith; moment = c.requires.moment }
+frames-init c = record {
+  heard = starts_with c.args.connection.now c.args.now _ c.args.buffer.now.bytes c.args.piece.now c.push-read.new.self.bytes c.push-read.result c.push-read.ensures.bytes;
+  within = omega (arith, c.push-read.ensures.taken);
+  moment = c.requires.moment;
+  capacity = c.push-read.ensures.capacity;
+  bound = c.push-read.ensures.bound;
+}
 
 pub frames-preserved : goal.frames-preserved
 frames-preserved c =
-    let s = rw take_rest at (rw c.in-GoesOn.is at c.in_ok-take_front.ensures.step) in
+    let s = rw c.in-GoesOn.is at c.in_ok-take_front.ensures.step in
+    let front = c.frames.buffer.bytes in
     record {
-      heard = goes_on c.frames.invariant.heard s;
-      within = (falls _ _ c.args.now c.args.bytes.now _ _ c.frames.used c.in-GoesOn.len c.frames.invariant.within s).1;
+      heard = rw c.drop_first.ensures.bytes (goes_on _ c.frames.invariant.heard s);
+      within = c.frames.invariant.within;
       moment = c.in_ok-take_front.ensures.moment;
+      capacity = c.drop_first.ensures.capacity ∙ c.frames.invariant.capacity;
+      bound = omega (arith, c.drop_first.ensures.capacity, c.frames.invariant.bound, ap length c.drop_first.ensures.bytes, length-drop (size_of front) front);
     }
 
-pub frames-smaller : goal.frames-smaller
-frames-smaller c =
-    let s = rw take_rest at (rw c.in-GoesOn.is at c.in_ok-take_front.ensures.step) in
-    let fall = falls _ _ c.args.now c.args.bytes.now _ _ c.frames.used c.in-GoesOn.len c.frames.invariant.within s in
-    omega (arith, fall.0, fall.1)
+pub frames-preserved-in-Waits : goal.frames-preserved-in-Waits
+frames-preserved-in-Waits c =
+    let s = rw c.in-Waits.is at c.in_ok-take_front.ensures.step in
+    let front = c.frames.buffer.bytes in
+    let new = c.push-read-in-Waits.new.self.bytes in
+    let p : IsPush c.push-read-in-Waits.result c.frames.read c.frames.buffer.capacity front c.args.piece.now new =
+    record { taken = rw take_rest at c.push-read-in-Waits.ensures.taken; bytes = rw take_rest at c.push-read-in-Waits.ensures.bytes } in
+    record {
+      heard = reads_on c.frames.invariant.heard s _ (pushed_on c.push-read-in-Waits.result c.frames.read front c.args.piece.now new p.bytes);
+      within = push_within c.push-read-in-Waits.result c.frames.read c.frames.buffer.capacity front c.args.piece.now new p c.frames.invariant.within;
+      moment = c.in_ok-take_front.ensures.moment;
+      capacity = c.push-read-in-Waits.ensures.capacity ∙ c.frames.invariant.capacity;
+      bound = c.push-read-in-Waits.ensures.bound;
+    }
 
-pub overflow_add-used : goal.overflow_add-used
-overflow_add-used c =
-    let s = rw take_rest at (rw c.in-GoesOn.is at c.in_ok-take_front.ensures.step) in
-    let fall = falls _ _ c.args.now c.args.bytes.now _ _ c.frames.used c.in-GoesOn.len c.frames.invariant.within s in
-    omega (arith, fall.1)
-
-pub returns-in-Waits-clause-heard : goal.returns-in-Waits-clause-heard
-returns-in-Waits-clause-heard c =
-    let s = rw take_rest at (rw c.in-Waits.is at c.in_ok-take_front.ensures.step) in
-    waits c.frames.invariant.heard s
+pub returns-then-read-piece-clause-heard : goal.returns-then-read-piece-clause-heard
+returns-then-read-piece-clause-heard c =
+    let s = rw c.in-Waits.is at c.in_ok-take_front.ensures.step in
+    waits_whole c.frames.invariant.heard (nothing_behind c.frames.read c.frames.buffer.bytes c.args.piece.now (omega arith)) s
 
 pub returns-in-Closed-clause-heard : goal.returns-in-Closed-clause-heard
-returns-in-Closed-clause-heard c =
-    let s = rw take_rest at (rw c.in-Closed.is at c.in_ok-take_front.ensures.step) in
-    closes c.frames.invariant.heard s
+returns-in-Closed-clause-heard c = closes _ c.frames.invariant.heard (rw c.in-Closed.is at c.in_ok-take_front.ensures.step)
 
 pub returns-in-Refused-clause-heard : goal.returns-in-Refused-clause-heard
 returns-in-Refused-clause-heard c =
-    let s = rw take_rest at (rw c.in-Refused.is at c.in_ok-take_front.ensures.step) in
-    refuses c.frames.invariant.heard s c.in_ok-refuse-in-Refused.ensures.ok
-
-pub returns-in_err-take_front-clause-part : goal.returns-in_err-take_front-clause-part
-returns-in_err-take_front-clause-part c = on_err c.from_residual.result (part c.frames.invariant.heard c.in_err-take_front.ensures.part)
-
-pub returns-in_err-refuse-in-Refused-clause-part : goal.returns-in_err-refuse-in-Refused-clause-part
-returns-in_err-refuse-in-Refused-clause-part c =
-    let s = rw take_rest at (rw c.in-Refused.is at c.in_ok-take_front.ensures.step) in
-    on_err c.from_residual-in_err-refuse-in-Refused.result (part_refused c.take_front.new.connection c.frames.invariant.heard s c.in_err-refuse-in-Refused.ensures.err)
+    refuses _ c.frames.invariant.heard (rw c.in-Refused.is at c.in_ok-take_front.ensures.step) c.in_ok-refuse-in-Refused.ensures.ok

@@ -1,21 +1,11 @@
-use Rattle.std.proofs.Common.{Ok, arith}
-use Rattle.std.proofs.lemmas.Result.{err_from_is_err_and}
+use Rattle.std.proofs.Common.{Ok, Err, sym, arith}
+use Rattle.ua_value.specs.declared.fault.ReadFault.TheVariants.{Refused}
 use Rattle.ua_frame.specs.Hello.{acknowledge_layout, lawful_acknowledge}
-use Rattle.ua_frame.proofs.Codecs.{reads_all, acknowledge_some, acknowledge_fails}
+use Rattle.ua_frame.proofs.Codecs.{reads_all}
 use Rattle.ua_frame.proofs.acknowledge.Ack.of_fields.Goals as goal
 
-pub returns-in_err-version-clause-exact : goal.returns-in_err-version-clause-exact
-returns-in_err-version-clause-exact c =
-    let p = err_from_is_err_and c.from_residual.result c.from_residual.ensures.1 in
-    rw (p.1, p.2) (acknowledge_fails c.args.fields.now c.in_err-version.field-0.0 c.in_err-version.ensures)
+pub returns-in-Some-clause-spelled : goal.returns-in-Some-clause-spelled
+returns-in-Some-clause-spelled c = reads_all acknowledge_layout lawful_acknowledge c.args.fields.now (λ i. omega (arith, c.type_inv.fields i)) (Ok c.in-Some.ack) (sym c.in-Some.ensures)
 
-pub returns-in_err-version-clause-spelled : goal.returns-in_err-version-clause-spelled
-returns-in_err-version-clause-spelled c =
-    reads_all acknowledge_layout lawful_acknowledge c.args.fields.now (λ i. omega (arith, c.type_inv.fields i)) _ (returns-in_err-version-clause-exact c)
-
-pub returns-clause-exact : goal.returns-clause-exact
-returns-clause-exact c = acknowledge_some c.args.fields.now _ c.in_ok-version.ensures
-
-pub returns-clause-spelled : goal.returns-clause-spelled
-returns-clause-spelled c =
-    reads_all acknowledge_layout lawful_acknowledge c.args.fields.now (λ i. omega (arith, c.type_inv.fields i)) (Ok _) (returns-clause-exact c)
+pub returns-in-None-clause-spelled : goal.returns-in-None-clause-spelled
+returns-in-None-clause-spelled c = reads_all acknowledge_layout lawful_acknowledge c.args.fields.now (λ i. omega (arith, c.type_inv.fields i)) (Err Refused) (sym c.in-None.ensures)

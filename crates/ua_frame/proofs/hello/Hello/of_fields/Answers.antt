@@ -7,14 +7,14 @@ use Rattle.ua_frame.proofs.hello.Hello.of_fields.Goals as goal
 pub returns-in_err-version-clause-exact : goal.returns-in_err-version-clause-exact
 returns-in_err-version-clause-exact c =
     let p = err_from_is_err_and c.from_residual.result c.from_residual.ensures.1 in
-    rw (p.1, p.2) (hello_fails c.args.fields.now c.in_err-version.field-0.0 c.in_err-version.ensures)
+    rw (p.1, p.2) (hello_fails c.args.fields.now c.in_err-version.field-0.0 c.in_err-version.ensures.gives)
 
 pub returns-in_err-version-clause-spelled : goal.returns-in_err-version-clause-spelled
 returns-in_err-version-clause-spelled c =
     reads_all hello_layout lawful_hello c.args.fields.now (λ i. omega (arith, c.type_inv.fields i)) _ (returns-in_err-version-clause-exact c)
 
 pub returns-clause-exact : goal.returns-clause-exact
-returns-clause-exact c = hello_some c.args.fields.now _ c.in_ok-version.ensures
+returns-clause-exact c = hello_some c.args.fields.now _ c.in_ok-version.ensures.gives
 
 pub returns-clause-spelled : goal.returns-clause-spelled
 returns-clause-spelled c =

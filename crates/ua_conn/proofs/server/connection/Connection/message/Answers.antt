@@ -1,11 +1,11 @@
-use Rattle.std.proofs.Common.{◌++◌, Option, Some, length, sym, ap, subst, ◌∙◌}
+use Rattle.std.proofs.Common.{◌++◌, Option, Some, None, length, sym, ap, subst, ◌∙◌}
 use Rattle.ua_chunk.specs.Layout.{chunk_of}
 use Rattle.ua_chunk.specs.Numbers.{number_after}
 use Rattle.ua_chunk.specs.Written.{message_frames}
 use Rattle.ua_channel.specs.Channel.{Shown, most}
 use Rattle.ua_conn.specs.Past.{Agreed}
 use Rattle.ua_conn.specs.server.Replies.{answer_parts}
-use Rattle.ua_conn.proofs.ServerEnd.MessageLemmas.{Answers, site_of, gains, chunk_of_flagged, token_is, silent, answered, message_acts}
+use Rattle.ua_conn.proofs.ServerEnd.MessageLemmas.{Answers, site_of, gains, chunk_of_flagged, token_is, silent, answered, no_answer, message_acts}
 use Rattle.ua_conn.proofs.server.connection.Connection.message.Goals.{in-Some-agreed+in_ok-say, in_default-agreed}
 use Rattle.ua_conn.proofs.server.connection.Connection.message.Goals as goal
 
@@ -39,3 +39,15 @@ returns-clause-does c =
           rw (w.self-is, w.out-is, ← c.self.view_is) (message_acts s.settings.now s.id s.agreed s.channel c.heard.new.channel s.half c.gather.new.half s.next s.next c.args.now p.flag (chunk_of p.fields) chunk p.kind (Some c.in-Some.request) (gains out asked) (gains out c.hand_on.new.asked.items)
           c.self.invariant.same c.self.invariant.between is judged.0 judged.1.channel gathered.0 gathered.1 says)
     ]
+
+pub returns-in_default-clause-does : goal.returns-in_default-clause-does
+returns-in_default-clause-does c =
+    let s = c.self.inside in
+    let p = c.args.frame.now in
+    let chunk = c.in_ok-chunk.chunk in
+    let judged = c.in_ok-chunk.ensures.judged in
+    let is = chunk_of_flagged p.kind p.flag (chunk_of p.fields) chunk judged.1.chunk in
+    let gathered = rw c.in_default.is at c.in_ok-request.ensures.judged in
+    let had = gains c.args.out.now.items c.args.asked.now.items in
+    rw (← c.self.view_is) (message_acts s.settings.now s.id s.agreed s.channel c.heard.new.channel s.half c.gather.new.half s.next s.next c.args.now p.flag (chunk_of p.fields) chunk p.kind None had had
+    c.self.invariant.same c.self.invariant.between is judged.0 judged.1.channel gathered.0 gathered.1 (no_answer (site_of s.settings.now s.id) s.agreed (most s.channel.channel.used chunk.chunk.token) chunk.chunk.request_id s.next c.args.now had))
