@@ -77,9 +77,9 @@ close_acts settings id agreed channel new half next now o chunk out asked e ther
   handed = sym (append-nil asked);
 }
 
--- what the rows of the part say counts for the whole table
 -- ---- a MSG
 
+-- what the rows of the part say counts for the whole table
 pub message_rows_are : (settings : Configuration) (id : ℕ) (agreed : Option Agreed) (channel : Shown) (g : Gathered) (now flag : ℕ) (o : Option Chunk) (c : FlaggedChunk) (kind : Kind) (v : Option ℕ) →
     channel.channel.id ≡ id → IsBetween settings.limits g → IsChunkOf kind flag o c → first_row (admitted_rows channel.channel now o) ≡ None → first_row (gathered_rows g c) ≡ v →
     first_row (message_effect (site_of settings id) (known_of agreed channel g.half) now flag o).rows ≡ v
@@ -96,6 +96,17 @@ pub record Answers (site : Site) (agreed : Option Agreed) (token id next now : �
   pub number : next' ≡ next_after next (answers site now token id agreed request)
   pub said : has.bytes ≡ had.bytes ++ spelled_next site next (answers site now token id agreed request)
   pub handed : has.asked ≡ had.asked ++ to_list request
+
+no_replies : (site : Site) (agreed : Option Agreed) (token id now : ℕ) → answers site now token id agreed None ≡ []
+no_replies site None token id now = refl
+no_replies site (Some agreed) token id now = refl
+
+pub no_answer : (site : Site) (agreed : Option Agreed) (token id next now : ℕ) (had : Gained) → Answers site agreed token id next now None next had had
+no_answer site agreed token id next now had = record {
+  number = ap (next_after next) (sym (no_replies site agreed token id now));
+  said = sym (append-nil had.bytes) ∙ ap (λ rs. had.bytes ++ spelled_next site next rs) (sym (no_replies site agreed token id now));
+  handed = sym (append-nil had.asked);
+}
 
 -- before a Hello nothing can be said
 pub silent : (site : Site) (token id next now : ℕ) (request : Request) (bytes : List ℕ) (asked asked' : List Request) → asked' ≡ asked ++ request ∷ [] →

@@ -1,8 +1,6 @@
 //! What a client says for itself.
 
 ghost use Rattle.std.specs.Prelude.{◌≡◌, ◌<◌, ◌^◌, ◌++◌, true, pos, is_ok, if◌then◌else◌, IfOk};
-ghost use Rattle.ua_value.specs.Node.{two_byte};
-ghost use Rattle.ua_service.specs.Headers.{request_header_at};
 ghost use Rattle.ua_chunk.specs.Numbers.{number_after};
 ghost use Rattle.ua_chunk.specs.Written.{open_frame, close_frame};
 ghost use Rattle.ua_channel.specs.Token.{newest_id};
@@ -13,12 +11,9 @@ ghost use Rattle.ua_conn.specs.client.Telling.{type_of, numbered_to, waiting_to,
 use crate::client::connection::Connection;
 use std::alloc::Global;
 use ua_chunk::{write_close, write_open};
-use ua_service::{CloseRequest, OpenRequest, RequestHeader, body_of};
-use ua_value::{DateTime, Identifier, NoMemory, NodeId, UaBytes, UaString};
-use ua_variant::{ExtensionBody, ExtensionObject};
-
-/// The version of the connection protocol that is spoken.
-pub(crate) const VERSION: u32 = 0;
+use ua_frame::VERSION;
+use ua_service::{CloseRequest, OpenRequest, body_of, request_header};
+use ua_value::{DateTime, NoMemory, UaBytes};
 
 /// The mode without security.
 const NO_SECURITY: i32 = 1;
@@ -30,35 +25,6 @@ pub(crate) enum Asks {
     Issue,
     /// A further one.
     Renew,
-}
-
-/// The null id.
-fn no_id() -> NodeId
-    ensures { result ≡ two_byte 0 }
-{
-    NodeId {
-        namespace: 0,
-        identifier: Identifier::Numeric(0),
-    }
-}
-
-/// The header of a request: the moment, its handle, and nothing else. OPC 10000-4, 7.33.
-fn request_header(now: u64, handle: u32) -> RequestHeader
-    requires { now < 2 ^ 63 }
-    ensures { result ≡ request_header_at (pos now) handle }
-{
-    RequestHeader {
-        authentication_token: no_id(),
-        timestamp: DateTime(now as i64),
-        request_handle: handle,
-        return_diagnostics: 0,
-        audit_entry_id: UaString::null(),
-        timeout_hint: 0,
-        additional_header: ExtensionObject {
-            type_id: no_id(),
-            body: ExtensionBody::None,
-        },
-    }
 }
 
 /// The number of a request's type.
@@ -84,7 +50,7 @@ fn open_asked_body(
     ensures { IfOk result (λ body. body.items ≡ open_asked_body now id (type_of asks) lifetime) }
 {
     let request = OpenRequest {
-        header: request_header(now, id),
+        header: request_header(DateTime(now as i64), id),
         client_protocol_version: VERSION,
         request_type: request_type(asks),
         security_mode: NO_SECURITY,
@@ -101,7 +67,7 @@ fn close_asked_body(alloc: Global, now: u64, id: u32) -> Result<Vec<u8>, NoMemor
     ensures { IfOk result (λ body. body.items ≡ close_asked_body now id) }
 {
     let request = CloseRequest {
-        header: request_header(now, id),
+        header: request_header(DateTime(now as i64), id),
     };
     body_of(alloc, request)
 }

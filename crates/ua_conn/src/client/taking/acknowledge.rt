@@ -12,9 +12,9 @@ ghost use Rattle.ua_conn.specs.declared.client.answer.Answer.{Answer as Given};
 use crate::client::config::ClientConfig;
 use crate::client::connection::{Connection, FIRST_ID};
 use crate::client::fault::ClientFault;
-use crate::client::questions::{Asks, VERSION};
+use crate::client::questions::Asks;
 use ua_frame::status::BAD_TCP_NOT_ENOUGH_RESOURCES;
-use ua_frame::{Ack, Frame, Hello, Kind, acceptable};
+use ua_frame::{Ack, Frame, Hello, Kind, VERSION, acceptable};
 use ua_value::UaString;
 
 /// The channel of an open request that opens one.

@@ -18,15 +18,12 @@ use std::alloc::Global;
 use ua_channel::{Issued, ServerChannel};
 use ua_chunk::{Assembly, OpenChunk, Sequence, write_open};
 use ua_frame::status::BAD_TCP_MESSAGE_TYPE_INVALID;
-use ua_frame::{Frame, Kind};
+use ua_frame::{Frame, Kind, VERSION};
 use ua_service::{OpenResponse, body_of, read_open, response_header};
 use ua_value::{DateTime, NoMemory, UaBytes, let_go};
 
 /// The status of what went well.
 const GOOD: u32 = 0;
-
-/// The version of the connection protocol that is spoken.
-const VERSION: u32 = 0;
 
 /// What an open request is granted, and the handle that it gave itself.
 #[derive(Clone, Copy)]
