@@ -1,7 +1,6 @@
 -- One turn of a client over a link: its output is sent, then a read, and what the client makes of it.
 use Rattle.std.specs.Prelude.{◌≡◌, ℕ, ◌+◌, ◌≤◌, ℤ, true, List, [], take, drop, length, ◌⊎◌}
 use Rattle.std.specs.Io.KnownBytes.{Appends, Consumes, Keeps, IsAtEnd}
-use Rattle.ua_conn.specs.client.Asking.{in_flight}
 use Rattle.ua_conn.specs.client.Feeding.{ClientShown, HandsAll, FailsAll}
 use Rattle.ua_link.specs.Reads.{piece_at}
 use Rattle.ua_link.specs.Turns.{Seen}
@@ -61,8 +60,8 @@ client_faults LinkFailed n = n + 1
 -- Answers and a fault are those of the client for the bytes that came.
 abbrev pub ClientTurns : ClientShown → ClientShown → Seen → Seen → ClientTurn → Type 0
 ClientTurns old new before after (Answers answers) =
-    (now : ℤ) × (bytes : List ℕ) × Fed old before after now bytes × HandsAll in_flight (silent old) (piece_at now bytes) new answers.items
+    (now : ℤ) × (bytes : List ℕ) × Fed old before after now bytes × HandsAll (silent old) (piece_at now bytes) new answers.items
 ClientTurns old new before after (Fault fault) =
-    (now : ℤ) × (bytes : List ℕ) × Fed old before after now bytes × FailsAll in_flight (silent old) (piece_at now bytes) new fault × (new.failed ≡ true)
+    (now : ℤ) × (bytes : List ℕ) × Fed old before after now bytes × FailsAll (silent old) (piece_at now bytes) new fault × (new.failed ≡ true)
 ClientTurns old new before after InputEnded = AtEnd old new before after
 ClientTurns old new before after LinkFailed = Broken old new before after ⊎ Deaf old new before after
