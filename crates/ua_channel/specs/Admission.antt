@@ -1,4 +1,4 @@
--- Which frames a server's channel refuses, in order, with the status of each. OPC 10000-6, 6.7 and 7.1.5; OPC 10000-4, 7.38.2.
+-- Which frames a server's channel refuses, in order, with the status of each. OPC 10000-6, 6.7 and 7.1.5; OPC 10000-4, 7.39.2.
 use Rattle.std.specs.Prelude.{ℕ, ℤ, pos, negsuc, Bool, true, false, not, ◌==◌, nat_le, List, [], ◌∷◌, length, Option, Some, None, if◌then◌else◌}
 use Rattle.std.specs.Str.{bytes_eq}
 use Rattle.ua_frame.specs.Rows.{Row}

@@ -1,4 +1,4 @@
--- What a server says to a request. OPC 10000-4 5.5.2, 5.5.4, 7.33 to 7.35.
+-- What a server says to a request. OPC 10000-4, 5.5.2, 5.5.4, 7.33 to 7.35.
 use Rattle.std.specs.Prelude.{ℕ, ℤ, List, [], ◌∷◌, Option, Some, map}
 use Rattle.std.specs.List.{filter}
 use Rattle.ua_value.specs.declared.localized.LocalizedText.{LocalizedText}

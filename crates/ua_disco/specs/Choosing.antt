@@ -1,4 +1,4 @@
--- What the lists of a request ask for, OPC 10000-4 5.5.2 and 5.5.4.
+-- What the lists of a request ask for, OPC 10000-4, 5.5.2 and 5.5.4.
 use Rattle.std.specs.Prelude.{ℕ, Bool, true, false, List, [], ◌∷◌, Option, Some, None}
 use Rattle.std.specs.Str.{bytes_eq}
 use Rattle.std.specs.List.{list_any}

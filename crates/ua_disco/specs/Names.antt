@@ -1,4 +1,4 @@
--- The name of an application in the language that is wanted most, OPC 10000-4 5.4.
+-- The name of an application in the language that is wanted most, OPC 10000-4, 5.4.
 use Rattle.std.specs.Prelude.{ℕ, List, [], ◌∷◌, Option, Some, None, unwrap_or}
 use Rattle.std.specs.List.{find}
 use Rattle.ua_value.specs.declared.localized.LocalizedText.{LocalizedText}

@@ -14,7 +14,7 @@ use ua_service::{
 };
 use ua_value::NoMemory;
 
-/// The service is not one that the server offers (OPC 10000-4 7.39).
+/// The service is not one that the server offers (OPC 10000-4, 7.39).
 const BAD_SERVICE_UNSUPPORTED: u32 = 0x800B_0000;
 
 /// The applications that the request asks for.
@@ -89,7 +89,7 @@ fn get_endpoints(
 }
 
 /// What a server with these settings answers to a request at the moment `now`, in ticks of 100 ns
-/// since 1601-01-01 UTC. FindServers (OPC 10000-4 5.5.2) gets the applications whose URI is among
+/// since 1601-01-01 UTC. FindServers (OPC 10000-4, 5.5.2) gets the applications whose URI is among
 /// its ServerUris, GetEndpoints (5.5.4) the endpoints whose transport profile is among its
 /// ProfileUris, each all of them where that array is null or empty, in the order of the settings.
 /// An application has the first of its names that is in the earliest requested locale that some

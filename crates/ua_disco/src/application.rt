@@ -7,7 +7,7 @@ use crate::names::Names;
 use ua_service::ApplicationDescription;
 use ua_value::{Array, LocalizedText, NoMemory, UaString, copy_three};
 
-/// An application as it is set up (OPC 10000-4 7.2), with its name in several languages.
+/// An application as it is set up (OPC 10000-4, 7.2), with its name in several languages.
 #[derive(Drop)]
 pub(crate) struct Application {
     pub(crate) uri: UaString,

@@ -1,4 +1,4 @@
-//! What the lists of a request ask for (OPC 10000-4 5.5.2 and 5.5.4).
+//! What the lists of a request ask for (OPC 10000-4, 5.5.2 and 5.5.4).
 
 ghost use Rattle.std.specs.Prelude.{◌≡◌};
 ghost use Rattle.ua_disco.specs.Choosing.{same_text, is_among, is_asked};

@@ -7,7 +7,7 @@ use crate::application::Application;
 use ua_service::{EndpointDescription, UserTokenPolicy};
 use ua_value::{Array, LocalizedText, NoMemory, UaBytes, UaString, copy_three, copy_two};
 
-/// An endpoint as it is set up (OPC 10000-4 7.14).
+/// An endpoint as it is set up (OPC 10000-4, 7.14).
 #[derive(Drop)]
 pub(crate) struct Endpoint {
     pub(crate) url: UaString,

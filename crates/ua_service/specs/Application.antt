@@ -1,4 +1,4 @@
--- ApplicationDescription, OPC 10000-4 7.2.
+-- ApplicationDescription, OPC 10000-4, 7.2.
 use Rattle.std.specs.Prelude.{refl}
 use Rattle.std.specs.Int.{w32}
 use Rattle.ua_service.specs.declared.application.ApplicationDescription.{ApplicationDescription}

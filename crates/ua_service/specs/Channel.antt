@@ -1,4 +1,4 @@
--- The messages that open, renew and close a secure channel, OPC 10000-4 5.6.2 and 5.6.3.
+-- The messages that open, renew and close a secure channel, OPC 10000-4, 5.6.2 and 5.6.3.
 use Rattle.std.specs.Prelude.{refl, ℕ, pos, None}
 use Rattle.std.specs.Int.{w32}
 use Rattle.ua_service.specs.declared.channel.OpenRequest.{OpenRequest}

@@ -1,4 +1,4 @@
--- The bodies of the messages of a secure channel, OPC 10000-6 5.2.9.
+-- The bodies of the messages of a secure channel, OPC 10000-6, 5.2.9.
 use Rattle.std.specs.Prelude.{ℕ, List, Option}
 use Rattle.std.proofs.Common.{lit<}
 use Rattle.ua_service.specs.declared.channel.OpenRequest.{OpenRequest}

@@ -1,4 +1,4 @@
--- The messages of discovery, OPC 10000-4 5.5.2 and 5.5.4.
+-- The messages of discovery, OPC 10000-4, 5.5.2 and 5.5.4.
 use Rattle.std.specs.Prelude.{refl}
 use Rattle.ua_service.specs.declared.discovery.FindServersRequest.{FindServersRequest}
 use Rattle.ua_service.specs.declared.discovery.FindServersResponse.{FindServersResponse}

@@ -1,4 +1,4 @@
--- EndpointDescription and UserTokenPolicy, OPC 10000-4 7.14 and 7.42.
+-- EndpointDescription and UserTokenPolicy, OPC 10000-4, 7.14 and 7.42.
 use Rattle.std.specs.Prelude.{refl}
 use Rattle.std.specs.Int.{w8, w32}
 use Rattle.ua_service.specs.declared.endpoint.UserTokenPolicy.{UserTokenPolicy}

@@ -1,4 +1,4 @@
--- The headers of requests and responses, OPC 10000-4 7.33 to 7.35.
+-- The headers of requests and responses, OPC 10000-4, 7.33 to 7.35.
 use Rattle.std.specs.Prelude.{refl, ℕ, ℤ, None}
 use Rattle.std.specs.Int.{w32}
 use Rattle.ua_service.specs.declared.headers.RequestHeader.{RequestHeader}

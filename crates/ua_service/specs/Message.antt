@@ -1,4 +1,4 @@
--- Bodies of messages, OPC 10000-6 5.2.9: an encoding id as a NodeId, the fields, and nothing more.
+-- Bodies of messages, OPC 10000-6, 5.2.9: an encoding id as a NodeId, the fields, and nothing more.
 use Rattle.std.specs.Prelude.{◌≡◌, ℕ, ◌==◌, ◌&&◌, ◌++◌, ◌↔◌, Bool, false, List, Option, Some, None, if◌then◌else◌}
 use Rattle.ua_value.specs.declared.node.NodeId.{NodeId}
 use Rattle.ua_value.specs.declared.node.Identifier.{Identifier}

@@ -1,4 +1,4 @@
--- The bodies of responses, OPC 10000-6 5.2.9.
+-- The bodies of responses, OPC 10000-6, 5.2.9.
 use Rattle.std.specs.Prelude.{ℕ, List, Option, Some, None, if◌then◌else◌}
 use Rattle.ua_value.specs.declared.node.NodeId.{NodeId}
 use Rattle.ua_value.specs.Format.{◌>>=◌}

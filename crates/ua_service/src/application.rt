@@ -7,7 +7,7 @@ use ua_value::{
     Array, Fields, LocalizedText, NoMemory, Parts, ReadFault, Sink, UaString, Wire, copy_three,
 };
 
-/// An application that can be found (OPC 10000-4 7.2).
+/// An application that can be found (OPC 10000-4, 7.2).
 #[derive(Drop)]
 pub struct ApplicationDescription {
     /// The globally unique name of this instance.

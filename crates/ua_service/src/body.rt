@@ -10,7 +10,7 @@ use std::alloc::Global;
 use ua_value::{Identifier, NoMemory, NodeId, ReadFault, Sink, Wire, read_whole};
 
 /// A message. Its body is the id of its encoding as a NodeId, then its fields, and nothing more
-/// (OPC 10000-6 5.2.9). The id may be spelled in any form; the shortest is written.
+/// (OPC 10000-6, 5.2.9). The id may be spelled in any form; the shortest is written.
 pub trait Body: Sized + Drop {
     ghost message: { Message Self };
 

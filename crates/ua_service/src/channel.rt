@@ -9,7 +9,7 @@ use crate::headers::{RequestHeader, ResponseHeader};
 use std::alloc::Global;
 use ua_value::{DateTime, Fields, NoMemory, Parts, ReadFault, Sink, UaBytes, Wire, copy_two};
 
-/// A request that a secure channel is opened or its token renewed (OPC 10000-4 5.6.2).
+/// A request that a secure channel is opened or its token renewed (OPC 10000-4, 5.6.2).
 #[derive(Drop)]
 pub struct OpenRequest {
     pub header: RequestHeader,
@@ -104,7 +104,7 @@ impl Wire for OpenRequest {
     ghost laws = { lawful_open_request };
 }
 
-/// The token of a secure channel that was opened or renewed (OPC 10000-4 5.6.2).
+/// The token of a secure channel that was opened or renewed (OPC 10000-4, 5.6.2).
 #[derive(Drop)]
 pub struct OpenResponse {
     pub header: ResponseHeader,
@@ -213,7 +213,7 @@ impl Wire for OpenResponse {
     ghost laws = { lawful_open_response };
 }
 
-/// A request that the secure channel is closed (OPC 10000-4 5.6.3). It has no answer.
+/// A request that the secure channel is closed (OPC 10000-4, 5.6.3). It has no answer.
 #[derive(Drop)]
 pub struct CloseRequest {
     pub header: RequestHeader,

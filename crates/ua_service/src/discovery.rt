@@ -8,7 +8,7 @@ use crate::headers::{RequestHeader, ResponseHeader};
 use std::alloc::Global;
 use ua_value::{Array, Fields, NoMemory, Parts, ReadFault, Sink, UaString, Wire, copy_two};
 
-/// A question for the servers that the receiver knows (OPC 10000-4 5.5.2).
+/// A question for the servers that the receiver knows (OPC 10000-4, 5.5.2).
 #[derive(Drop)]
 pub struct FindServersRequest {
     pub header: RequestHeader,
@@ -74,7 +74,7 @@ impl Wire for FindServersRequest {
     ghost laws = { lawful_find_servers_request };
 }
 
-/// The servers that were asked for (OPC 10000-4 5.5.2).
+/// The servers that were asked for (OPC 10000-4, 5.5.2).
 #[derive(Drop)]
 pub struct FindServersResponse {
     pub header: ResponseHeader,
@@ -115,7 +115,7 @@ impl Wire for FindServersResponse {
     ghost laws = { lawful_find_servers_response };
 }
 
-/// A question for the endpoints of a server (OPC 10000-4 5.5.4).
+/// A question for the endpoints of a server (OPC 10000-4, 5.5.4).
 #[derive(Drop)]
 pub struct GetEndpointsRequest {
     pub header: RequestHeader,
@@ -184,7 +184,7 @@ impl Wire for GetEndpointsRequest {
     ghost laws = { lawful_get_endpoints_request };
 }
 
-/// The endpoints that were asked for (OPC 10000-4 5.5.4).
+/// The endpoints that were asked for (OPC 10000-4, 5.5.4).
 #[derive(Drop)]
 pub struct GetEndpointsResponse {
     pub header: ResponseHeader,

@@ -8,7 +8,7 @@ use ua_value::{
     Array, Fields, NoMemory, Parts, ReadFault, Sink, UaBytes, UaString, Wire, copy_three, copy_two,
 };
 
-/// A kind of user identity that an endpoint takes (OPC 10000-4 7.42).
+/// A kind of user identity that an endpoint takes (OPC 10000-4, 7.42).
 #[derive(Drop)]
 pub struct UserTokenPolicy {
     /// The name of the policy, unique in its endpoint.
@@ -100,7 +100,7 @@ impl Wire for UserTokenPolicy {
     ghost laws = { lawful_user_token_policy };
 }
 
-/// An endpoint of a server (OPC 10000-4 7.14).
+/// An endpoint of a server (OPC 10000-4, 7.14).
 #[derive(Drop)]
 pub struct EndpointDescription {
     /// Where the endpoint is.

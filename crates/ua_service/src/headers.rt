@@ -10,7 +10,7 @@ use ua_value::{
 };
 use ua_variant::{DiagnosticInfo, ExtensionObject};
 
-/// What stands before the fields of every request (OPC 10000-4 7.33).
+/// What stands before the fields of every request (OPC 10000-4, 7.33).
 #[derive(Drop)]
 pub struct RequestHeader {
     /// The secret id of the session; the null id where there is none.
@@ -127,7 +127,7 @@ impl Wire for RequestHeader {
     ghost laws = { lawful_request_header };
 }
 
-/// What stands before the fields of every response (OPC 10000-4 7.34).
+/// What stands before the fields of every response (OPC 10000-4, 7.34).
 #[derive(Drop)]
 pub struct ResponseHeader {
     /// When the server sent the response.
@@ -239,7 +239,7 @@ impl Wire for ResponseHeader {
     ghost laws = { lawful_response_header };
 }
 
-/// The header of a request (OPC 10000-4 7.33): the moment, the client's number for the request, and nothing else. It takes no memory.
+/// The header of a request (OPC 10000-4, 7.33): the moment, the client's number for the request, and nothing else. It takes no memory.
 pub fn request_header(now: DateTime, handle: u32) -> RequestHeader
     ensures { result ≡ request_header_at now.0 handle }
 {
@@ -254,7 +254,7 @@ pub fn request_header(now: DateTime, handle: u32) -> RequestHeader
     }
 }
 
-/// The header of a response (OPC 10000-4 7.34): the moment in ticks of 100 ns since 1601-01-01
+/// The header of a response (OPC 10000-4, 7.34): the moment in ticks of 100 ns since 1601-01-01
 /// UTC, the handle of the request, the result, and nothing else. It takes no memory.
 pub fn response_header(now: i64, handle: u32, status: u32) -> ResponseHeader
     ensures { result ≡ response_header_at now handle status }
@@ -269,7 +269,7 @@ pub fn response_header(now: i64, handle: u32, status: u32) -> ResponseHeader
     }
 }
 
-/// The response to a request of which the service failed as a whole (OPC 10000-4 7.35).
+/// The response to a request of which the service failed as a whole (OPC 10000-4, 7.35).
 #[derive(Drop)]
 pub struct ServiceFault {
     /// Its result is the status of the failure.

@@ -1,4 +1,4 @@
-//! The bodies of the messages of discovery and of a secure channel (OPC 10000-4 5.5 and 5.6).
+//! The bodies of the messages of discovery and of a secure channel (OPC 10000-4, 5.5 and 5.6).
 #![tactic(auto)]
 
 mod application;

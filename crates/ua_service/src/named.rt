@@ -3,7 +3,7 @@
 ghost use Rattle.std.specs.Prelude.{◌≡◌, Some, None, IfSome};
 ghost use Rattle.ua_service.specs.Named.{request_type_number, security_mode_number, application_type_number, token_type_number};
 
-/// What an open request asks for (OPC 10000-4 5.6.2, SecurityTokenRequestType).
+/// What an open request asks for (OPC 10000-4, 5.6.2, SecurityTokenRequestType).
 #[derive(Clone, Copy, Debug, PartialEq, Eq)]
 pub enum RequestType {
     /// A token for a new channel.
@@ -36,7 +36,7 @@ impl RequestType {
     }
 }
 
-/// How messages are secured (OPC 10000-4 7.20, MessageSecurityMode).
+/// How messages are secured (OPC 10000-4, 7.20, MessageSecurityMode).
 #[derive(Clone, Copy, Debug, PartialEq, Eq)]
 pub enum SecurityMode {
     /// No mode; what a request is refused for.
@@ -77,7 +77,7 @@ impl SecurityMode {
     }
 }
 
-/// What an application is (OPC 10000-4 7.4).
+/// What an application is (OPC 10000-4, 7.4).
 #[derive(Clone, Copy, Debug, PartialEq, Eq)]
 pub enum ApplicationType {
     /// A server.
@@ -118,7 +118,7 @@ impl ApplicationType {
     }
 }
 
-/// How a user shows who it is (OPC 10000-4 7.43, UserTokenType).
+/// How a user shows who it is (OPC 10000-4, 7.43, UserTokenType).
 #[derive(Clone, Copy, Debug, PartialEq, Eq)]
 pub enum TokenType {
     /// Not at all.

@@ -43,7 +43,7 @@ pub fn read_response(alloc: Global, input: &[u8]) -> Result<Response, ReadFault>
     Response::read_body(alloc, input)
 }
 
-/// The open request (OPC 10000-4 5.6.2) of which the whole input is a body.
+/// The open request (OPC 10000-4, 5.6.2) of which the whole input is a body.
 ///
 /// # Errors
 ///
@@ -58,7 +58,7 @@ pub fn read_open(alloc: Global, input: &[u8]) -> Result<OpenRequest, ReadFault>
     OpenRequest::read_body(alloc, input)
 }
 
-/// The open response (OPC 10000-4 5.6.2) of which the whole input is a body.
+/// The open response (OPC 10000-4, 5.6.2) of which the whole input is a body.
 ///
 /// # Errors
 ///
@@ -73,7 +73,7 @@ pub fn read_open_response(alloc: Global, input: &[u8]) -> Result<OpenResponse, R
     OpenResponse::read_body(alloc, input)
 }
 
-/// The close request (OPC 10000-4 5.6.3) of which the whole input is a body.
+/// The close request (OPC 10000-4, 5.6.3) of which the whole input is a body.
 ///
 /// # Errors
 ///

@@ -16,9 +16,9 @@ use ua_value::{NoMemory, NodeId, Parts, ReadFault, Sink, Wire, read_whole};
 /// What a client asks for over an open channel.
 #[derive(Drop)]
 pub enum Request {
-    /// For the servers that are known (OPC 10000-4 5.5.2).
+    /// For the servers that are known (OPC 10000-4, 5.5.2).
     FindServers(FindServersRequest),
-    /// For the endpoints of a server (OPC 10000-4 5.5.4).
+    /// For the endpoints of a server (OPC 10000-4, 5.5.4).
     GetEndpoints(GetEndpointsRequest),
     /// For anything else.
     Other(OtherRequest),

@@ -13,11 +13,11 @@ use ua_value::{NoMemory, NodeId, Parts, ReadFault, Sink, Wire, read_whole};
 /// What a server answers over an open channel.
 #[derive(Drop)]
 pub enum Response {
-    /// The servers that were asked for (OPC 10000-4 5.5.2).
+    /// The servers that were asked for (OPC 10000-4, 5.5.2).
     FindServers(FindServersResponse),
-    /// The endpoints that were asked for (OPC 10000-4 5.5.4).
+    /// The endpoints that were asked for (OPC 10000-4, 5.5.4).
     GetEndpoints(GetEndpointsResponse),
-    /// That the service failed (OPC 10000-4 7.35).
+    /// That the service failed (OPC 10000-4, 7.35).
     Fault(ServiceFault),
 }
 

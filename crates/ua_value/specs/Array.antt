@@ -1,4 +1,4 @@
--- Arrays (OPC 10000-6 5.2.5): a count in four bytes and the items, or -1 where there is none.
+-- Arrays (OPC 10000-6, 5.2.5): a count in four bytes and the items, or -1 where there is none.
 use Rattle.std.specs.Prelude.{◌≡◌, ℕ, zero, suc, ◌≤◌, ◌<◌, ◌==◌, List, [], ◌∷◌, ◌++◌, length, Option, Some, None, if◌then◌else◌, nat_lt}
 use Rattle.std.specs.List.{flat_map, AllByRecursion}
 use Rattle.std.specs.Int.{w32, to_le_bytes}

@@ -1,4 +1,4 @@
--- Floating point numbers (OPC 10000-6 5.2.2.3), as their bits.
+-- Floating point numbers (OPC 10000-6, 5.2.2.3), as their bits.
 use Rattle.std.specs.Prelude.{refl}
 use Rattle.std.specs.Int.{w32, w64}
 use Rattle.ua_value.specs.declared.bits.FloatBits.{FloatBits}

@@ -1,4 +1,4 @@
--- Moments (OPC 10000-6 5.2.2.5), as a signed number of ticks.
+-- Moments (OPC 10000-6, 5.2.2.5), as a signed number of ticks.
 use Rattle.std.specs.Prelude.{refl}
 use Rattle.std.specs.Int.{w64}
 use Rattle.ua_value.specs.declared.date.DateTime.{DateTime}

@@ -1,4 +1,4 @@
--- Node ids with the URI of a namespace and the index of a server (OPC 10000-6 5.2.2.10).
+-- Node ids with the URI of a namespace and the index of a server (OPC 10000-6, 5.2.2.10).
 use Rattle.std.specs.Prelude.{◌<◌, ◌+◌, ◌^◌, ◌%◌, ◌==◌, ℕ, Bool, List, [], ◌∷◌, ◌++◌, Option, None, not, if◌then◌else◌}
 use Rattle.std.specs.Int.{w32, to_le_bytes}
 use Rattle.ua_value.specs.declared.expanded.ExpandedNodeId.{ExpandedNodeId}

@@ -1,4 +1,4 @@
--- Guids (OPC 10000-6 5.2.2.6): three numbers and eight bytes.
+-- Guids (OPC 10000-6, 5.2.2.6): three numbers and eight bytes.
 use Rattle.std.specs.Prelude.{◌≡◌, ℕ, ◌++◌, List, length, take, drop, Some, None, nat_lt, if◌then◌else◌}
 use Rattle.std.specs.Int.{w16, w32, to_be_bytes}
 use Rattle.ua_value.specs.declared.guid.Guid.{Guid}

@@ -1,4 +1,4 @@
--- Texts in a language (OPC 10000-6 5.2.2.14): a byte says which parts follow.
+-- Texts in a language (OPC 10000-6, 5.2.2.14): a byte says which parts follow.
 use Rattle.std.specs.Prelude.{ℕ, ◌+◌, ◌==◌, Bool, true, false, List, [], ◌∷◌, ◌++◌, Option, Some, None, cond, not, nat_lt, bit_and}
 use Rattle.ua_value.specs.declared.localized.LocalizedText.{LocalizedText}
 use Rattle.ua_value.specs.Format.{Grammar, Format}

@@ -1,4 +1,4 @@
--- Names in a namespace (OPC 10000-6 5.2.2.13): the number of the namespace and the name.
+-- Names in a namespace (OPC 10000-6, 5.2.2.13): the number of the namespace and the name.
 use Rattle.std.specs.Prelude.{refl}
 use Rattle.std.specs.Int.{w16}
 use Rattle.ua_value.specs.declared.names.QualifiedName.{QualifiedName}

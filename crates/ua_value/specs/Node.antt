@@ -1,4 +1,4 @@
--- Node ids (OPC 10000-6 5.2.2.9): an encoding byte, and what it says.
+-- Node ids (OPC 10000-6, 5.2.2.9): an encoding byte, and what it says.
 use Rattle.std.specs.Prelude.{◌<◌, ◌==◌, ℕ, List, [], ◌∷◌, ◌++◌, Option, if◌then◌else◌, nat_lt, ◌&&◌, ◌^◌}
 use Rattle.std.specs.Int.{w8, w16, w32, to_le_bytes}
 use Rattle.ua_value.specs.declared.guid.Guid.{Guid}

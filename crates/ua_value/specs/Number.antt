@@ -1,4 +1,4 @@
--- Integers, the low byte first (OPC 10000-6 5.2.2.2), and truth values (5.2.2.1).
+-- Integers, the low byte first (OPC 10000-6, 5.2.2.2), and truth values (5.2.2.1).
 use Rattle.std.specs.Prelude.{◌≡◌, ℕ, ◌<◌, ◌≤◌, ◌^◌, ◌==◌, List, [], ◌∷◌, Bool, true, false, ℤ, length, take, drop, Option, Some, None, nat_lt, if◌then◌else◌, not}
 use Rattle.std.specs.Int.{Width, byte_len, to_le_bytes, from_le_bytes, cast_unsigned, cast_signed}
 use Rattle.std.specs.Int.RustNames.{FitsSigned}

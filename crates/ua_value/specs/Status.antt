@@ -1,4 +1,4 @@
--- Status codes (OPC 10000-6 5.2.2.11).
+-- Status codes (OPC 10000-6, 5.2.2.11).
 use Rattle.std.specs.Prelude.{ℕ, ◌-◌, ◌==◌, true, if◌then◌else◌, List, ◌∷◌, ◌++◌, codes, length, replicate, Option, Some, None, refl}
 use Rattle.std.specs.Fmt.{digits}
 use Rattle.std.specs.Int.{w32}

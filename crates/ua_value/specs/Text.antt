@@ -1,4 +1,4 @@
--- Texts (OPC 10000-6 5.2.2.4), strings of bytes (5.2.2.7) and XML elements (5.2.2.8): a length in four bytes and the bytes, or -1 where there is none.
+-- Texts (OPC 10000-6, 5.2.2.4), strings of bytes (5.2.2.7) and XML elements (5.2.2.8): a length in four bytes and the bytes, or -1 where there is none.
 use Rattle.std.specs.Prelude.{◌≡◌, ℕ, ◌≤◌, ◌==◌, Bool, true, List, [], ◌∷◌, ◌++◌, length, take, drop, Option, Some, None, IsUtf8, if◌then◌else◌, nat_lt}
 use Rattle.std.specs.Str.{is_utf8}
 use Rattle.std.specs.Int.{w32, to_le_bytes}

@@ -1,4 +1,4 @@
-//! Arrays (OPC 10000-6 5.2.5): a count in four bytes and the items, or -1 for none.
+//! Arrays (OPC 10000-6, 5.2.5): a count in four bytes and the items, or -1 for none.
 #![tactic(auto, unfolding(crate::specs::Array::array))]
 
 ghost use Rattle.std.specs.Prelude.{◌≡◌, ◌≤◌, ◌<◌, ◌++◌, ◌↔◌, length, option_map, option_copied, Err, IfOk, IfErr, IsErrOf, OnOk, OnErr};

@@ -1,4 +1,4 @@
-//! Floating point numbers (OPC 10000-6 5.2.2.3), kept as their bits: nothing is computed with them.
+//! Floating point numbers (OPC 10000-6, 5.2.2.3), kept as their bits: nothing is computed with them.
 
 ghost use Rattle.ua_value.specs.Bits.{float_bits, double_bits, lawful_float_bits, lawful_double_bits};
 

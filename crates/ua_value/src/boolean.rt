@@ -1,4 +1,4 @@
-//! Truth values (OPC 10000-6 5.2.2.1): 0 is false, any other byte is true, and true is written as 1.
+//! Truth values (OPC 10000-6, 5.2.2.1): 0 is false, any other byte is true, and true is written as 1.
 #![tactic(auto, unfolding(crate::specs::Number::boolean))]
 
 ghost use Rattle.ua_value.specs.Number.{boolean};

@@ -1,4 +1,4 @@
-//! Byte strings (OPC 10000-6 5.2.2.7): a length in four bytes and the bytes, or -1 for none.
+//! Byte strings (OPC 10000-6, 5.2.2.7): a length in four bytes and the bytes, or -1 for none.
 #![tactic(auto, unfolding(crate::specs::Text::bytes_of))]
 
 ghost use Rattle.std.specs.Prelude.{◌≡◌, ◌≤◌, ◌<◌, ◌↔◌, length, Some, None, option_map, option_copied, IfSome, IfOk, IfErr, IsErrOf};
@@ -15,7 +15,7 @@ use crate::wire::{Sink, Wire, bytes_known};
 use std::alloc::Global;
 use std::marker::Model;
 
-/// The greatest length of a text, a byte string or an array: a count is a signed number of 32 bits (OPC 10000-6 5.2.2.4, 5.2.5).
+/// The greatest length of a text, a byte string or an array: a count is a signed number of 32 bits (OPC 10000-6, 5.2.2.4, 5.2.5).
 pub const LONGEST: u32 = 2147483647;
 
 /// The ByteString at the front, lent from the bytes, and what follows it. `None` where no beginning of the bytes spells one: they end before it does,

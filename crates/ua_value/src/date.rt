@@ -1,4 +1,4 @@
-//! Dates (OPC 10000-6 5.2.2.5).
+//! Dates (OPC 10000-6, 5.2.2.5).
 
 ghost use Rattle.ua_value.specs.Date.{date_time, lawful_date_time};
 

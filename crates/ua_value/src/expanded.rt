@@ -1,4 +1,4 @@
-//! Node ids with the URI of a namespace and the index of a server (OPC 10000-6 5.2.2.10).
+//! Node ids with the URI of a namespace and the index of a server (OPC 10000-6, 5.2.2.10).
 
 ghost use Rattle.std.specs.Prelude.{◌≡◌, ◌≤◌, ◌<◌, ◌^◌, ◌+◌, ◌++◌, length, OnOk, OnErr};
 ghost use Rattle.ua_value.specs.Localized.{canon_part};

@@ -1,4 +1,4 @@
-//! Guids (OPC 10000-6 5.2.2.6): three numbers and eight bytes.
+//! Guids (OPC 10000-6, 5.2.2.6): three numbers and eight bytes.
 
 ghost use Rattle.std.specs.Prelude.{◌+◌, ◌≡◌, Some, IfOk, string_bytes};
 ghost use Rattle.uuid.specs.Text.{hyphenated_text, lower};
@@ -92,7 +92,7 @@ impl Wire for Guid {
 }
 
 impl Guid {
-    /// The text with hyphens, in lower case, as `72962b91-fa75-4ae6-8d28-b404dc7daf63` (OPC 10000-6 5.1.3).
+    /// The text with hyphens, in lower case, as `72962b91-fa75-4ae6-8d28-b404dc7daf63` (OPC 10000-6, 5.1.3).
     pub fn text(&self, alloc: Global) -> Result<String, NoMemory>
         ensures { IfOk result (λ t. string_bytes t ≡ hyphenated_text lower (digits_of self.now)) }
     {
@@ -100,7 +100,7 @@ impl Guid {
     }
 }
 
-/// The text with hyphens, in lower case (OPC 10000-6 5.1.3).
+/// The text with hyphens, in lower case (OPC 10000-6, 5.1.3).
 impl fmt::Display for Guid {
     ghost output = { λ g. Some (hyphenated_text lower (digits_of g)) };
 

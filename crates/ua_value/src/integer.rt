@@ -1,4 +1,4 @@
-//! Signed integers (OPC 10000-6 5.2.2.2): two's complement, the low byte first.
+//! Signed integers (OPC 10000-6, 5.2.2.2): two's complement, the low byte first.
 #![tactic(auto, unfolding(crate::specs::Number::signed))]
 
 ghost use Rattle.std.specs.Int.{w8, w16, w32, w64};

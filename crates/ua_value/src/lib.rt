@@ -1,4 +1,4 @@
-//! The plain built-in types of OPC UA and their spellings in OPC UA Binary (OPC 10000-6 5.2.2 and 5.2.5).
+//! The plain built-in types of OPC UA and their spellings in OPC UA Binary (OPC 10000-6, 5.2.2 and 5.2.5).
 //!
 //! A type has a format: which bytes spell which value, the spelling that is written, and which values there are. Its [`Wire`] reads and writes by
 //! that format: `read` takes the one spelling that the bytes begin with, or shows that they begin with none, and `write` appends the canonical

@@ -1,4 +1,4 @@
-//! Texts in a language (OPC 10000-6 5.2.2.14): a mask that says which parts follow, and the parts.
+//! Texts in a language (OPC 10000-6, 5.2.2.14): a mask that says which parts follow, and the parts.
 
 ghost use Rattle.std.specs.Prelude.{◌≡◌, ◌≤◌, ◌+◌, ◌++◌, length, OnOk, OnErr};
 ghost use Rattle.ua_value.specs.Format.{AppendsPart};

@@ -1,4 +1,4 @@
-//! Names in a namespace (OPC 10000-6 5.2.2.13).
+//! Names in a namespace (OPC 10000-6, 5.2.2.13).
 
 ghost use Rattle.std.specs.Prelude.{◌+◌};
 ghost use Rattle.ua_value.specs.Names.{qualified_name, lawful_qualified_name};

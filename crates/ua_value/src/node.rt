@@ -1,4 +1,4 @@
-//! Node ids (OPC 10000-6 5.2.2.9): an encoding byte, which says how the rest is spelled. All three forms of a number are read, and the shortest is
+//! Node ids (OPC 10000-6, 5.2.2.9): an encoding byte, which says how the rest is spelled. All three forms of a number are read, and the shortest is
 //! written.
 
 ghost use Rattle.std.specs.Prelude.{◌≡◌, ◌≤◌, ◌<◌, ◌++◌, length, IfOk, OnOk, OnErr};

@@ -1,4 +1,4 @@
-//! Unsigned integers (OPC 10000-6 5.2.2.2): the low byte first.
+//! Unsigned integers (OPC 10000-6, 5.2.2.2): the low byte first.
 #![tactic(auto, unfolding(crate::specs::Number::unsigned))]
 
 ghost use Rattle.std.specs.Prelude.{◌≡◌, ◌≤◌, length, option_map, drop, IfSome};

@@ -1,4 +1,4 @@
-//! Status codes (OPC 10000-6 5.2.2.11).
+//! Status codes (OPC 10000-6, 5.2.2.11).
 
 ghost use Rattle.std.specs.Prelude.{◌≡◌, ◌&&◌, nat_lt, nat_le, Some, option_copied};
 ghost use Rattle.ua_value.specs.Status.{status_code, lawful_status_code, status_name, status_text};
@@ -13,21 +13,21 @@ use std::fmt;
 pub struct StatusCode(pub u32);
 
 impl StatusCode {
-    /// Whether the severity is good: bits 30 and 31 are 0 (OPC 10000-4 7.39.1).
+    /// Whether the severity is good: bits 30 and 31 are 0 (OPC 10000-4, 7.39.1).
     pub fn is_good(self) -> bool
         ensures { result ≡ nat_lt self.0 0x4000_0000 }
     {
         self.0 < 0x4000_0000
     }
 
-    /// Whether the severity is uncertain: bit 30 is 1, and bit 31 is 0 (OPC 10000-4 7.39.1).
+    /// Whether the severity is uncertain: bit 30 is 1, and bit 31 is 0 (OPC 10000-4, 7.39.1).
     pub fn is_uncertain(self) -> bool
         ensures { result ≡ (nat_le 0x4000_0000 self.0 && nat_lt self.0 0x8000_0000) }
     {
         0x4000_0000 <= self.0 && self.0 < 0x8000_0000
     }
 
-    /// Whether the severity is bad: bit 31 is 1. A severity of two ones is reserved, and counts as bad (OPC 10000-4 7.39.1).
+    /// Whether the severity is bad: bit 31 is 1. A severity of two ones is reserved, and counts as bad (OPC 10000-4, 7.39.1).
     pub fn is_bad(self) -> bool
         ensures { result ≡ nat_le 0x8000_0000 self.0 }
     {
@@ -35,7 +35,7 @@ impl StatusCode {
     }
 }
 
-/// Eight hex digits in upper case, and behind a blank the name in OPC 10000-4 7.39.2 or OPC 10000-6 annex A where it is a status that this stack uses.
+/// Eight hex digits in upper case, and behind a blank the name in OPC 10000-4, 7.39.2 or OPC 10000-6 annex A where it is a status that this stack uses.
 #[tactic(auto, using(crate::proofs::Digits::eight_digits))]
 impl fmt::Display for StatusCode {
     ghost output = { λ s. Some (status_text s.0) };

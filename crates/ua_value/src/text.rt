@@ -1,4 +1,4 @@
-//! Texts (OPC 10000-6 5.2.2.4): a length in four bytes and UTF-8, or -1 for none.
+//! Texts (OPC 10000-6, 5.2.2.4): a length in four bytes and UTF-8, or -1 for none.
 #![tactic(auto, unfolding(crate::specs::Text::bytes_of))]
 
 ghost use Rattle.std.specs.Prelude.{◌≡◌, ◌≤◌, ◌<◌, ◌↔◌, length, if◌then◌else◌, Some, None, option_map, option_copied, string_bytes, bytes_eq, IfSome, IfOk, IfErr, IsErrOf};
@@ -73,7 +73,7 @@ pub fn peek_string(input: &[u8]) -> Option<(Option<&str>, usize)>
 }
 
 impl UaString {
-    /// The text that is none.
+    /// The null text, which is not the empty one.
     pub fn null() -> UaString
         ensures { result ≡ None }
     {

@@ -1,4 +1,4 @@
-//! XML elements (OPC 10000-6 5.2.2.8): spelled as a String is.
+//! XML elements (OPC 10000-6, 5.2.2.8): spelled as a String is.
 
 ghost use Rattle.std.specs.Prelude.{◌≡◌, ◌<◌, ◌↔◌, length, option_map, option_copied, string_bytes, bytes_eq, Some, None, IfOk, IfErr, IsErrOf};
 ghost use Rattle.std.specs.Option.{option_eq};

@@ -1,4 +1,4 @@
--- DiagnosticInfo, OPC 10000-6 5.2.2.12.
+-- DiagnosticInfo, OPC 10000-6, 5.2.2.12.
 use Rattle.std.specs.Prelude.{◌≡◌, ℕ, zero, suc, ◌+◌, ◌<◌, ◌≤◌, List, ◌∷◌, ◌++◌, Option, Some, None, true, false, nat_lt}
 use Rattle.ua_value.specs.Format.{Grammar, Format}
 use Rattle.ua_value.specs.Sequence.{both, made, never, either, headed}

@@ -1,4 +1,4 @@
--- The parts of a DiagnosticInfo beside the inner one, OPC 10000-6 5.2.2.12.
+-- The parts of a DiagnosticInfo beside the inner one, OPC 10000-6, 5.2.2.12.
 use Rattle.std.specs.Prelude.{ℕ, ℤ, List, Option}
 use Rattle.std.specs.Int.{w32}
 use Rattle.ua_value.specs.declared.status.StatusCode.{StatusCode}

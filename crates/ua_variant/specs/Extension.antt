@@ -1,4 +1,4 @@
--- ExtensionObject, OPC 10000-6 5.2.2.15: an id and a body that is kept unread.
+-- ExtensionObject, OPC 10000-6, 5.2.2.15: an id and a body that is kept unread.
 use Rattle.std.specs.Prelude.{ℕ, ◌==◌, List, [], ◌∷◌, Option}
 use Rattle.ua_value.specs.Format.{Grammar, Format}
 use Rattle.ua_value.specs.Text.{xml_element, byte_string}

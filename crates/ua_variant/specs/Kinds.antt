@@ -1,4 +1,4 @@
--- The kinds of values, OPC 10000-6 5.1.2, and the format of each plain kind.
+-- The kinds of values, OPC 10000-6, 5.1.2, and the format of each plain kind.
 use Rattle.std.specs.Prelude.{◌≡◌, ℕ, ℤ, ◌<◌, Bool, List, Option, Some, None, ◌==◌, ◌&&◌, nat_le, nat_lt, if◌then◌else◌, refl}
 use Rattle.std.proofs.Common.{lit<}
 use Rattle.std.specs.Int.{w8, w16, w32, w64}

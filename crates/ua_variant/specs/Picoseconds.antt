@@ -1,4 +1,4 @@
--- Parts of a moment that are smaller than its tick, OPC 10000-6 5.2.2.17.
+-- Parts of a moment that are smaller than its tick, OPC 10000-6, 5.2.2.17.
 use Rattle.std.proofs.Common.{ℕ, ◌≤◌, min, refl, ap, arith, length}
 use Rattle.std.specs.Int.{w16}
 use Rattle.ua_value.specs.Format.{Format, IsLawful}

@@ -1,4 +1,4 @@
--- The spellings of variants and data values, OPC 10000-6 5.2.2.16 and 5.2.2.17, and the canonical ones.
+-- The spellings of variants and data values, OPC 10000-6, 5.2.2.16 and 5.2.2.17, and the canonical ones.
 use Rattle.std.specs.Prelude.{◌≡◌, ℕ, ℤ, ◌+◌, ◌<◌, ◌≤◌, ◌++◌, List, [], ◌∷◌, length, Option, Some, None, Bool, true, false, bit_and, is_some}
 use Rattle.std.specs.Int.{w32, to_le_bytes}
 use Rattle.ua_value.specs.Format.{Grammar, Format, input_limit}

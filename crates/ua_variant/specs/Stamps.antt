@@ -1,4 +1,4 @@
--- What a DataValue says beside its value, OPC 10000-6 5.2.2.17.
+-- What a DataValue says beside its value, OPC 10000-6, 5.2.2.17.
 use Rattle.std.specs.Prelude.{ℕ, Option}
 use Rattle.ua_value.specs.declared.date.DateTime.{DateTime}
 use Rattle.ua_value.specs.declared.status.StatusCode.{StatusCode}

@@ -1,4 +1,4 @@
--- Variants, their elements and data values, as plain data (OPC 10000-6 5.2.2.16 and 5.2.2.17).
+-- Variants, their elements and data values, as plain data (OPC 10000-6, 5.2.2.16 and 5.2.2.17).
 use Rattle.std.specs.Prelude.{◌≡◌, ℕ, suc, ℤ, pos, negsuc, ◌*◌, ◌==◌, ◌&&◌, List, [], ◌∷◌, length, max, unsigned_abs, Bool, true, false, not, Option, Some, None}
 use Rattle.ua_variant.specs.declared.stamps.Stamps.{Stamps}
 use Rattle.ua_variant.specs.Kinds.{Plain, Kind, plain, variant_kind, data_kind, info_kind, Payload}

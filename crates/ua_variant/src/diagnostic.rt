@@ -14,7 +14,7 @@ use std::marker::Model;
 use ua_value::{NoMemory, ReadFault, Sink, StatusCode, UaString, Wire};
 
 /// Vendor-specific diagnostics of an error, and maybe those of the error below it
-/// (OPC 10000-6 5.2.2.12). At most 100 are nested.
+/// (OPC 10000-6, 5.2.2.12). At most 100 are nested.
 #[derive(Debug, Drop)]
 pub struct DiagnosticInfo {
     levels: u8,

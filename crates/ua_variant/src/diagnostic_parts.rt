@@ -9,7 +9,7 @@ use std::alloc::Global;
 use ua_value::{NoMemory, Parts, ReadFault, Sink, StatusCode, UaString, Wire, read_part};
 
 /// The parts of a DiagnosticInfo beside the inner one, in the order of their bytes
-/// (OPC 10000-6 5.2.2.12). The first four are indexes into the string table of a response.
+/// (OPC 10000-6, 5.2.2.12). The first four are indexes into the string table of a response.
 #[derive(Debug, PartialEq, Eq, Drop)]
 pub struct DiagnosticParts {
     /// The index of the name of the error.

@@ -19,7 +19,7 @@ pub enum ExtensionBody {
     Xml(XmlElement),
 }
 
-/// A value of any structured type, under the id of its encoding (OPC 10000-6 5.2.2.15).
+/// A value of any structured type, under the id of its encoding (OPC 10000-6, 5.2.2.15).
 #[derive(Debug, PartialEq, Eq, Drop)]
 pub struct ExtensionObject {
     /// The id of the encoding of the body; the null id where there is none.
@@ -28,7 +28,7 @@ pub struct ExtensionObject {
 }
 
 impl ExtensionObject {
-    /// The one without a body, under the null id (OPC 10000-6 5.2.2.15). It takes no memory.
+    /// The one without a body, under the null id (OPC 10000-6, 5.2.2.15). It takes no memory.
     pub fn null() -> ExtensionObject
         ensures namespace { result.type_id.namespace ≡ 0 }
         ensures identifier { result.type_id.identifier ≡ Identifier.Numeric 0 }

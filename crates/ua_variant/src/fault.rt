@@ -13,7 +13,7 @@ use std::fmt;
 pub enum VariantFault {
     /// The elements are not all of the kind that was named.
     MixedKinds = 1,
-    /// A single value of a Variant is itself a Variant (OPC 10000-6 5.2.2.16).
+    /// A single value of a Variant is itself a Variant (OPC 10000-6, 5.2.2.16).
     SingleVariant = 2,
     /// The dimensions do not fit the number of elements.
     BadDimensions = 3,

@@ -5,7 +5,7 @@ ghost use Rattle.ua_variant.specs.Kinds.{kind_number, kind_named};
 ghost use Rattle.ua_variant.specs.KindNames.{kind_name};
 ghost use Rattle.ua_variant.specs.View.{kind_of};
 
-/// The built-in types (OPC 10000-6 5.1.2). `kind as u8` is the number of each.
+/// The built-in types (OPC 10000-6, 5.1.2). `kind as u8` is the number of each.
 #[derive(Clone, Copy, Debug, PartialEq, Eq)]
 pub enum Kind {
     /// True or false.
@@ -61,7 +61,7 @@ pub enum Kind {
 }
 
 impl Kind {
-    /// The name of the type (OPC 10000-6 5.1.2), as `LocalizedText`.
+    /// The name of the type (OPC 10000-6, 5.1.2), as `LocalizedText`.
     pub fn name(self) -> &'static str
         ensures { result.now ≡ kind_name self }
     {
@@ -102,7 +102,7 @@ impl Kind {
         self as u8
     }
 
-    /// The kind that a Variant's first byte names in its bits 0 to 5 (OPC 10000-6 5.2.2.16): 26 to
+    /// The kind that a Variant's first byte names in its bits 0 to 5 (OPC 10000-6, 5.2.2.16): 26 to
     /// 31 stand for ByteString, and 0 and what is greater for none.
     #[tactic(auto, unfolding(crate::specs::Kinds::kind_named))]
     pub fn named(number: u8) -> Option<Kind>

@@ -81,7 +81,7 @@ impl Variant {
         }
     }
 
-    /// A single value (OPC 10000-6 5.2.2.16).
+    /// A single value (OPC 10000-6, 5.2.2.16).
     ///
     /// # Errors
     ///
@@ -108,7 +108,7 @@ impl Variant {
     }
 
     /// An array of elements of one kind, or the null array, with its dimensions where there are any
-    /// (OPC 10000-6 5.2.2.16). Each list has at most 2147483647 items, and the spellings of the
+    /// (OPC 10000-6, 5.2.2.16). Each list has at most 2147483647 items, and the spellings of the
     /// elements have at most 1152921504606846976 bytes together.
     ///
     /// # Errors
@@ -161,7 +161,7 @@ fn kept(tens: Option<u16>) -> Option<Picoseconds>
 
 impl DataValue {
     /// A value with its status and its moments, each where there is one, in the order of their bytes
-    /// (OPC 10000-6 5.2.2.17). Picoseconds are in steps of 10, at most 9999.
+    /// (OPC 10000-6, 5.2.2.17). Picoseconds are in steps of 10, at most 9999.
     ///
     /// # Errors
     ///

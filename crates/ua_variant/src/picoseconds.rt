@@ -10,7 +10,7 @@ use ua_value::{NoMemory, ReadFault, Sink, Wire};
 /// The greatest number of picoseconds, in steps of 10.
 const MOST_PICOSECONDS: u16 = 9999;
 
-/// A part of a DateTime's step, in steps of 10 picoseconds (OPC 10000-6 5.2.2.17); at most 9999.
+/// A part of a DateTime's step, in steps of 10 picoseconds (OPC 10000-6, 5.2.2.17); at most 9999.
 #[derive(Debug, Drop)]
 pub(crate) struct Picoseconds {
     tens: u16,

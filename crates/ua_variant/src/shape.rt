@@ -1,4 +1,4 @@
-//! The dimensions of an array (OPC 10000-6 5.2.2.16).
+//! The dimensions of an array (OPC 10000-6, 5.2.2.16).
 
 ghost use Rattle.std.specs.Prelude.{◌≡◌, ◌≤◌, ◌<◌, ◌^◌, length, min, IfOk};
 ghost use Rattle.ua_value.specs.Format.{Gives, input_limit};

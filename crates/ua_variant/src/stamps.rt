@@ -9,7 +9,7 @@ use crate::picoseconds::Picoseconds;
 use std::alloc::Global;
 use ua_value::{DateTime, NoMemory, Parts, ReadFault, Sink, StatusCode, Wire};
 
-/// The parts of a DataValue beside its value, in the order of their bytes (OPC 10000-6 5.2.2.17).
+/// The parts of a DataValue beside its value, in the order of their bytes (OPC 10000-6, 5.2.2.17).
 #[derive(Debug, Drop)]
 pub(crate) struct Stamps {
     pub(crate) status: Option<StatusCode>,

@@ -10,7 +10,7 @@ use ua_value::{
     QualifiedName, StatusCode, UaBytes, UaString, XmlElement,
 };
 
-/// A value of one of the built-in types (OPC 10000-6 5.1.2): what stands in a Variant.
+/// A value of one of the built-in types (OPC 10000-6, 5.1.2): what stands in a Variant.
 #[cycle(variant)]
 #[derive(Debug, Drop)]
 pub enum Element {
@@ -75,7 +75,7 @@ pub(crate) enum Body {
     Array(Kind, Option<Vec<Element>>, Array<i32>),
 }
 
-/// Nothing, one value, or an array of values of one kind (OPC 10000-6 5.2.2.16).
+/// Nothing, one value, or an array of values of one kind (OPC 10000-6, 5.2.2.16).
 ///
 /// At most 100 Variants, DataValues and DiagnosticInfos are nested in one another.
 #[cycle(variant)]
@@ -85,7 +85,7 @@ pub struct Variant {
     pub(crate) body: Body,
 }
 
-/// A value with its status and its moments, each of which may be absent (OPC 10000-6 5.2.2.17).
+/// A value with its status and its moments, each of which may be absent (OPC 10000-6, 5.2.2.17).
 ///
 /// At most 100 Variants, DataValues and DiagnosticInfos are nested in one another.
 #[cycle(variant)]

@@ -1,4 +1,4 @@
--- The server's refusals: at each place the first row that holds. OPC 10000-6, 6.7 and 7.1.5; OPC 10000-4, 7.38.2 (status codes).
+-- The server's refusals: at each place the first row that holds. OPC 10000-6, 6.7 and 7.1.5; OPC 10000-4, 7.39.2 (status codes).
 use Rattle.std.specs.Prelude.{ℕ, Bool, true, not, ◌&&◌, ◌==◌, List, [], ◌∷◌, ◌++◌, length, Option, Some, None, is_some, is_none, if◌then◌else◌}
 use Rattle.ua_frame.specs.Layout.{Frame, kind_of, flag_of, fields_of}
 use Rattle.ua_frame.specs.Rows.{Row, first_row, or_else}

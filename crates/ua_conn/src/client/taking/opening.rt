@@ -24,7 +24,7 @@ use ua_frame::{Frame, Kind};
 use ua_service::{OpenResponse, read_open_response};
 use ua_value::UaString;
 
-/// The least status that is bad. OPC 10000-4, 7.38.1.
+/// The least status that is bad. OPC 10000-4, 7.39.1.
 const BAD: u32 = 0x8000_0000;
 
 /// Admits an OPN, which comes between two messages and answers the open request that is pending.
