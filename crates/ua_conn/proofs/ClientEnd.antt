@@ -18,6 +18,7 @@ pub mod TellingLemmas
 pub mod TypeLemmas
 pub mod TakeLemmas
 pub mod FeedLemmas
+pub mod BoundLemmas
 pub mod PieceLemmas
 pub mod EffectLemmas
 pub mod AnswerLemmas

@@ -18,3 +18,4 @@ pub mod Effects
 pub mod Hearing
 pub mod Unread
 pub mod Parts
+pub mod Bound

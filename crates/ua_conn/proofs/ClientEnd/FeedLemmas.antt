@@ -1,12 +1,12 @@
 -- Frames that come to a client, taken one after another from bytes that came at one moment.
-use Rattle.std.proofs.Common.{◌≡◌, ℕ, ◌+◌, ◌≤◌, List, [], ◌∷◌, ◌++◌, map, drop, length, Option, Some, None, Ok, Err, refl, sym, ap, subst, ◌∙◌, append_assoc, arith, inl, inr}
+use Rattle.std.proofs.Common.{◌≡◌, ℕ, ◌+◌, ◌≤◌, List, [], ◌∷◌, ◌++◌, map, take, drop, length, true, false, Option, Some, None, Ok, Err, refl, sym, ap, subst, ◌∙◌, append_assoc, arith, inl, inr}
 use Rattle.std.specs.Prelude.{option_map}
-use Rattle.std.proofs.lemmas.List.{append-nil, length-take, length-take-le, length-drop, drop-drop}
+use Rattle.std.proofs.lemmas.List.{append-nil, length-take-le}
 use Rattle.ua_frame.specs.Rows.{first_row, or_else}
-use Rattle.ua_frame.specs.Streams.{at, plain, rest_of}
-use Rattle.ua_frame.specs.Layout.{frames_of, kind_of, flag_of}
+use Rattle.ua_frame.specs.Streams.{at, plain, size_of, rest_of}
+use Rattle.ua_frame.specs.Layout.{Frame, frames_of, kind_of, flag_of}
 use Rattle.ua_frame.specs.MomentLaws.{at_once_step, at_once_stop}
-use Rattle.ua_frame.specs.HeaderLaws.{header_fault_take}
+use Rattle.ua_frame.specs.HeaderLaws.{header_fault_take, header_fault_stays}
 use Rattle.ua_conn.specs.Past.{carried}
 use Rattle.ua_conn.specs.server.Feeding.{BeginsFrame, BeginsNoFrame, first_frame}
 use Rattle.ua_conn.specs.client.Asker.{Asker}
@@ -20,7 +20,9 @@ use Rattle.ua_conn.specs.declared.client.config.ClientConfig.{ClientConfig}
 use Rattle.ua_conn.specs.declared.client.answer.Answer.{Answer}
 use Rattle.ua_conn.specs.declared.client.fault.ClientFault.{ClientFault}
 use Rattle.ua_conn.specs.declared.client.fault.ClientFault.TheVariants.{ServerSaid, Broken, NoMemory, Ended}
+use Rattle.ua_frame.specs.HeaderRows.{header_fault}
 use Rattle.ua_conn.proofs.ServerEnd.FeedLemmas.{begins_or}
+use Rattle.ua_conn.proofs.BufferedLemmas.{begins_further, same_first, same_size, left_behind, pushed_first}
 
 -- ---- what is sent one after another
 
@@ -104,11 +106,29 @@ run_refuses config w now bytes fault (by_header e) =
       | inr none ↦ run_waits (asker_with config) w now bytes none ∙ (λ i. record { says = []; answers = []; fault = e i; after = w })
     ]
 
+-- ---- more of a piece behind the bytes of the buffer
+
+goes_on_further : (old new : ClientRunning) (now : ℕ) (front more : List ℕ) (had has : Given) → Steps old new now front had has (Ok true) → Steps old new now (front ++ more) had has (Ok true)
+goes_on_further old new now front more had has s =
+    let n = size_of front in
+    let size : size_of (front ++ more) ≡ n = same_size n front more s.0 in (
+      subst (λ z. BeginsFrame z (front ++ more)) (sym size) (begins_further n front more s.0),
+      subst (λ (f : Frame). Stands old new f had has) (sym ((λ i. first_frame now (size i) (front ++ more)) ∙ same_first now n front more s.0)) s.1,
+    )
+
+some_stays : (limit : ℕ) (front more : List ℕ) (o : Option ℕ) (fault : ClientFault) → header_fault limit front ≡ o → option_map Broken o ≡ Some fault → option_map Broken (header_fault limit (front ++ more)) ≡ Some fault
+some_stays limit front more None fault h e = absurd (cc)
+some_stays limit front more (Some status) fault h e = ap (option_map Broken) (header_fault_stays limit front more status h) ∙ e
+
+refused_further : (config : ClientConfig) (w : Awaiting) (now : ℕ) (front more : List ℕ) (fault : ClientFault) → IsRefused config w now front fault → IsRefused config w now (front ++ more) fault
+unfolding client_fault_in_rest
+refused_further config w now front more fault (by_header e) = by_header (some_stays (greatest_answer w.known.ack) front more _ fault refl e)
+refused_further config w now front more fault (by_frame n h e) = by_frame n (begins_further n front more h) (ap (awaiting_fault (asker_with config) w) (same_first now n front more h) ∙ e)
+
 -- ---- the loop
 
-pub starts : (old : ClientRunning) (now : ℕ) (bytes : List ℕ) (had : Given) → Hearing old old now bytes had had 0
+starts : (old : ClientRunning) (now : ℕ) (bytes : List ℕ) (had : Given) → Hearing old old now bytes had had bytes
 starts old now bytes had = record {
-  within = omega arith;
   said = [];
   hands = [];
   brings = refl;
@@ -122,16 +142,18 @@ starts old now bytes had = record {
   rest = refl;
 }
 
-still : {old new : ClientRunning} {now : ℕ} {bytes : List ℕ} {had has : Given} {used : ℕ} →
-    Hearing old new now bytes had has used → BeginsNoFrame (drop used bytes) → client_fault_in_rest new.waits.known (drop used bytes) ≡ None → Hears old new now bytes had has used
-still {old} {new} {now} {bytes} {had} {has} {used} h none fine =
-    let left = drop used bytes in
+pub starts_with : (old : ClientRunning) (now : ℕ) (had : Given) (front piece new : List ℕ) (k : ℕ) → new ≡ front ++ take k piece → Hearing old old now (front ++ piece) had had (new ++ drop k piece)
+starts_with old now had front piece new k e =
+    subst (λ l. Hearing old old now (front ++ piece) had had l) (sym (ap (λ l. l ++ drop k piece) e ∙ pushed_first k front piece)) (starts old now (front ++ piece) had)
+
+still : {old new : ClientRunning} {now : ℕ} {bytes : List ℕ} {had has : Given} {left : List ℕ} →
+    Hearing old new now bytes had has left → BeginsNoFrame left → client_fault_in_rest new.waits.known left ≡ None → Hears old new now bytes had has left
+still {old} {new} {now} {bytes} {had} {has} {left} h none fine =
     let a = asker_with new.config in
     let r : brought new now left ≡ client_run a new.waits [] left = run_waits a new.waits now left none in
     let all : (brought old now bytes).says ≡ h.said = h.brings ∙ (λ i. h.said ++ (r i).says) ∙ append-nil h.said in
     let given : (brought old now bytes).answers ≡ h.hands = h.answers ∙ (λ i. h.hands ++ (r i).answers) ∙ append-nil h.hands in
     record {
-      within = h.within;
       fine = h.fault_is ∙ (λ i. (r i).fault) ∙ fine;
       said = h.added ∙ ap (λ xs. had.bytes ++ sent_next old.next xs) (sym all);
       given = h.given ∙ ap (λ xs. had.answers ++ xs) (sym given);
@@ -141,23 +163,31 @@ still {old} {new} {now} {bytes} {had} {has} {used} h none fine =
       rest = sym (h.rest ∙ (at_once_stop now left none).1);
     }
 
-pub waits : {old new new2 : ClientRunning} {now : ℕ} {bytes : List ℕ} {had has has2 : Given} {used : ℕ} →
-    Hearing old new now bytes had has used → Steps new new2 now (drop used bytes) has has2 (Ok None) → Hears old new2 now bytes had has2 used
-waits {old} {new} {new2} {now} {bytes} {had} {has} {has2} {used} h s =
-    subst (λ (o : ClientRunning). Hears old o now bytes had has2 used) (sym s.2) (subst (λ (g : Given). Hears old new now bytes had g used) (sym s.3) (still h s.0 s.1))
+waits : {old new new2 : ClientRunning} {now : ℕ} {bytes : List ℕ} {had has has2 : Given} {left : List ℕ} →
+    Hearing old new now bytes had has left → Steps new new2 now left has has2 (Ok false) → Hears old new2 now bytes had has2 left
+waits {old} {new} {new2} {now} {bytes} {had} {has} {has2} {left} h s =
+    subst (λ (o : ClientRunning). Hears old o now bytes had has2 left) (sym s.2) (subst (λ (g : Given). Hears old new now bytes had g left) (sym s.3) (still h s.0 s.1))
 
-pub goes_on : {old new new2 : ClientRunning} {now : ℕ} {bytes : List ℕ} {had has has2 : Given} {used n : ℕ} →
-    Hearing old new now bytes had has used → Steps new new2 now (drop used bytes) has has2 (Ok (Some n)) → Hearing old new2 now bytes had has2 (used + n)
-goes_on {old} {new} {new2} {now} {bytes} {had} {has} {has2} {used} {n} h s =
-    let left = drop used bytes in
+pub waits_whole : {old new new2 : ClientRunning} {now : ℕ} {bytes : List ℕ} {had has has2 : Given} {front left : List ℕ} →
+    Hearing old new now bytes had has left → left ≡ front → Steps new new2 now front has has2 (Ok false) → Hears old new2 now bytes had has2 front
+waits_whole {old} {new} {new2} {now} {bytes} {had} {has} {has2} {front} {left} h e s = waits (subst (λ l. Hearing old new now bytes had has l) e h) s
+
+-- where there is more to read, and it is read
+pub reads_on : {old new new2 : ClientRunning} {now : ℕ} {bytes : List ℕ} {had has has2 : Given} {front left : List ℕ} →
+    Hearing old new now bytes had has left → Steps new new2 now front has has2 (Ok false) → (left2 : List ℕ) → left2 ≡ left → Hearing old new2 now bytes had has2 left2
+reads_on {old} {new} {new2} {now} {bytes} {had} {has} {has2} {front} {left} h s left2 e =
+    subst (λ (o : ClientRunning). Hearing old o now bytes had has2 left2) (sym s.2) (subst (λ (g : Given). Hearing old new now bytes had g left2) (sym s.3) (subst (λ l. Hearing old new now bytes had has l) (sym e) h))
+
+goes_on_at : {old new new2 : ClientRunning} {now : ℕ} {bytes : List ℕ} {had has has2 : Given} {left : List ℕ} →
+    Hearing old new now bytes had has left → Steps new new2 now left has has2 (Ok true) → Hearing old new2 now bytes had has2 (drop (size_of left) left)
+goes_on_at {old} {new} {new2} {now} {bytes} {had} {has} {has2} {left} h s =
+    let n = size_of left in
     let f = first_frame now n left in
     let xs = frame_says (asker_with new.config) new.waits f in
     let ys = frame_answers new.waits f in
-    let there : drop n left ≡ drop (used + n) bytes = drop-drop n used bytes in
-    let next = brought new2 now (drop (used + n) bytes) in
-    let r : brought new now left ≡ ahead_of xs ys next = run_stands new new2 now n left has has2 s.0 s.1 ∙ (λ i. ahead_of xs ys (brought new2 now (there i))) in
+    let next = brought new2 now (drop n left) in
+    let r : brought new now left ≡ ahead_of xs ys next = run_stands new new2 now n left has has2 s.0 s.1 in
     record {
-      within = omega (arith, h.within, s.0.within, length-drop used bytes);
       said = h.said ++ xs;
       hands = h.hands ++ ys;
       brings = h.brings ∙ (λ i. h.said ++ (r i).says) ∙ sym (append_assoc h.said xs next.says);
@@ -168,13 +198,21 @@ goes_on {old} {new} {new2} {now} {bytes} {had} {has} {has2} {used} {n} h s =
       after_is = h.after_is ∙ (λ i. (r i).after);
       config = s.1.config ∙ h.config;
       number = s.1.number ∙ ap (λ k. next_sent k xs) h.number ∙ sym (next_sent_append old.next h.said xs);
-      rest = h.rest ∙ ap plain (at_once_step now left n s.0.within s.0.frame).1 ∙ (λ i. plain (rest_of (map (at now) (there i))));
+      rest = h.rest ∙ ap plain (at_once_step now left n s.0.within s.0.frame).1;
     }
 
-stopped : {old new : ClientRunning} {now : ℕ} {bytes : List ℕ} {had has : Given} {used : ℕ} {out : List ℕ} {fault : ClientFault} →
-    Hearing old new now bytes had has used → IsRefused new.config new.waits now (drop used bytes) fault → out ≡ has.bytes → Breaks old now bytes had.bytes out fault
-stopped {old} {new} {now} {bytes} {had} {has} {used} {out} {fault} h s e =
-    let r = run_refuses new.config new.waits now (drop used bytes) fault s in
+pub goes_on : {old new new2 : ClientRunning} {now : ℕ} {bytes : List ℕ} {had has has2 : Given} {front : List ℕ} (more : List ℕ) →
+    Hearing old new now bytes had has (front ++ more) → Steps new new2 now front has has2 (Ok true) → Hearing old new2 now bytes had has2 (drop (size_of front) front ++ more)
+goes_on {old} {new} {new2} {now} {bytes} {had} {has} {has2} {front} more h s =
+    let n = size_of front in
+    let there : drop (size_of (front ++ more)) (front ++ more) ≡ drop n front ++ more =
+    (λ i. drop (same_size n front more s.0 i) (front ++ more)) ∙ left_behind n front more s.0 in
+    subst (λ l. Hearing old new2 now bytes had has2 l) there (goes_on_at h (goes_on_further new new2 now front more has has2 s))
+
+stopped : {old new : ClientRunning} {now : ℕ} {bytes : List ℕ} {had has : Given} {left : List ℕ} {out : List ℕ} {fault : ClientFault} →
+    Hearing old new now bytes had has left → IsRefused new.config new.waits now left fault → out ≡ has.bytes → Breaks old now bytes had.bytes out fault
+stopped {old} {new} {now} {bytes} {had} {has} {left} {out} {fault} h s e =
+    let r = run_refuses new.config new.waits now left fault s in
     let all : (brought old now bytes).says ≡ h.said = h.brings ∙ (λ i. h.said ++ (r i).says) ∙ append-nil h.said in
     record {
       fault_is = h.fault_is ∙ (λ i. (r i).fault);
@@ -182,15 +220,13 @@ stopped {old} {new} {now} {bytes} {had} {has} {used} {out} {fault} h s e =
     }
 
 -- whatever the fault is
-pub breaks : {old new : ClientRunning} {now : ℕ} {bytes : List ℕ} {had has : Given} {used : ℕ} (new2 : ClientRunning) (has2 : Given) (fault : ClientFault) →
-    Hearing old new now bytes had has used → Steps new new2 now (drop used bytes) has has2 (Err fault) → BreaksBy old now bytes had.bytes has2.bytes fault
-breaks new2 has2 (ServerSaid status reason) h s = stopped h s.0 s.1
-breaks new2 has2 (Broken status) h s = stopped h s.0 s.1
-breaks new2 has2 NoMemory h s = record { said = h.said; left = _; begins = h.brings; added = s.1 ∙ h.added }
-breaks new2 has2 Ended h s = absurd s.0
+pub breaks : {old new : ClientRunning} {now : ℕ} {bytes : List ℕ} {had has : Given} (front more : List ℕ) (new2 : ClientRunning) (has2 : Given) (fault : ClientFault) →
+    Hearing old new now bytes had has (front ++ more) → Steps new new2 now front has has2 (Err fault) → BreaksBy old now bytes had.bytes has2.bytes fault
+breaks {new = new} {now = now} front more new2 has2 (ServerSaid status reason) h s = stopped h (refused_further new.config new.waits now front more (ServerSaid status reason) s.0) s.1
+breaks {new = new} {now = now} front more new2 has2 (Broken status) h s = stopped h (refused_further new.config new.waits now front more (Broken status) s.0) s.1
+breaks front more new2 has2 NoMemory h s = record { said = h.said; left = _; begins = h.brings; added = s.1 ∙ h.added }
+breaks front more new2 has2 Ended h s = absurd s.0
 
 -- each frame has bytes
-pub falls : (old new : ClientRunning) (now : ℕ) (bytes : List ℕ) (had has : Given) (used n : ℕ) →
-    used ≤ length bytes → Steps old new now (drop used bytes) had has (Ok (Some n)) → (8 ≤ n) × (used + n ≤ length bytes)
-falls old new now bytes had has used n h s =
-    (omega (arith, s.0.frame.header, length-take n (drop used bytes)), omega (arith, h, s.0.within, length-drop used bytes))
+pub falls : (old new : ClientRunning) (now : ℕ) (front : List ℕ) (had has : Given) → Steps old new now front had has (Ok true) → (8 ≤ size_of front) × (size_of front ≤ length front)
+falls old new now front had has s = (omega (arith, s.0.frame.header, length-take-le (size_of front) front s.0.within), s.0.within)

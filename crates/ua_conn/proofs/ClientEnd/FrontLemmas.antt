@@ -1,9 +1,9 @@
 -- What stands at the front of some bytes that came to a client, as it was found there.
-use Rattle.std.proofs.Common.{◌≡◌, ℕ, ◌+◌, ◌≤◌, List, length, take, Option, Some, None, Result, Ok, Err, refl, sym, ap, subst, ◌∙◌, arith}
+use Rattle.std.proofs.Common.{◌≡◌, ℕ, ◌≤◌, true, List, length, take, Option, Some, None, Result, Ok, Err, refl, ap, ◌∙◌, arith}
+use Rattle.std.proofs.lemmas.List.{length-take-le}
 use Rattle.std.specs.Prelude.{option_map}
 use Rattle.ua_frame.specs.Streams.{size_of}
 use Rattle.ua_frame.specs.Layout.{Parts, IsFrameOf}
-use Rattle.ua_frame.specs.LayoutLaws.{Front, front}
 use Rattle.ua_frame.specs.HeaderRows.{header_fault}
 use Rattle.ua_frame.specs.HeaderLaws.{header_fault_take}
 use Rattle.ua_conn.specs.server.Feeding.{BeginsFrame, first_frame}
@@ -32,18 +32,16 @@ TakesAny old new now f had has t =
 -- is said of the one at the front
 taken_front : (old new : ClientRunning) (now : ℕ) (bytes : List ℕ) (f : Parts) (had has : Given) (t : Result (Unit {0}) ClientFault) → size_of bytes ≤ length bytes → IsFrameOf (take (size_of bytes) bytes) f →
     header_fault (greatest_answer old.waits.known.ack) bytes ≡ None → TakesAny old new now f had has t →
-    BeginsFrame (8 + length f.fields) bytes × Takes old new (first_frame now (8 + length f.fields) bytes) had has t
+    BeginsFrame (size_of bytes) bytes × Takes old new (first_frame now (size_of bytes) bytes) had has t
 taken_front old new now bytes f had has t within is h all =
-    let z = 8 + length f.fields in
-    let at : Front bytes f = front bytes f within is in (
-      record { within = at.within; frame = at.frame.there },
-      all (take z bytes) at.frame (header_fault_take (greatest_answer old.waits.known.ack) z bytes (omega arith) ∙ h),
+    let z = size_of bytes in (
+      record { within = within; frame = is.there },
+      all (take z bytes) is (header_fault_take (greatest_answer old.waits.known.ack) z bytes (omega (arith, is.there.header, length-take-le z bytes within)) ∙ h),
     )
 
-pub front_goes_on : (old new : ClientRunning) (now len : ℕ) (bytes : List ℕ) (f : Parts) (had has : Given) (u : Unit {0}) → len ≡ length f.fields → size_of bytes ≤ length bytes → IsFrameOf (take (size_of bytes) bytes) f →
-    header_fault (greatest_answer old.waits.known.ack) bytes ≡ None → TakesAny old new now f had has (Ok u) → Steps old new now bytes had has (Ok (Some (8 + len)))
-front_goes_on old new now len bytes f had has u e within is h all =
-    subst (λ (n : ℕ). Steps old new now bytes had has (Ok (Some (8 + n)))) (sym e) (taken_front old new now bytes f had has (Ok u) within is h all)
+pub front_goes_on : (old new : ClientRunning) (now : ℕ) (bytes : List ℕ) (f : Parts) (had has : Given) (u : Unit {0}) → size_of bytes ≤ length bytes → IsFrameOf (take (size_of bytes) bytes) f →
+    header_fault (greatest_answer old.waits.known.ack) bytes ≡ None → TakesAny old new now f had has (Ok u) → Steps old new now bytes had has (Ok true)
+front_goes_on old new now bytes f had has u within is h all = taken_front old new now bytes f had has (Ok u) within is h all
 
 refused_as : (old : ClientRunning) (now n : ℕ) (bytes : List ℕ) (fault : ClientFault) → BeginsFrame n bytes → FaultIs (awaiting_fault (asker_with old.config) old.waits (first_frame now n bytes)) fault → RefusedAs old now bytes fault
 refused_as old now n bytes (ServerSaid status reason) b h = by_frame n b h
@@ -54,4 +52,4 @@ refused_as old now n bytes Ended b h = absurd h
 pub front_refused : (old new : ClientRunning) (now : ℕ) (bytes : List ℕ) (f : Parts) (had has : Given) (fault : ClientFault) → size_of bytes ≤ length bytes → IsFrameOf (take (size_of bytes) bytes) f →
     header_fault (greatest_answer old.waits.known.ack) bytes ≡ None → TakesAny old new now f had has (Err fault) → Steps old new now bytes had has (Err fault)
 front_refused old new now bytes f had has fault within is h all =
-    let at = taken_front old new now bytes f had has (Err fault) within is h all in (refused_as old now (8 + length f.fields) bytes fault at.0 at.1.0, at.1.1)
+    let at = taken_front old new now bytes f had has (Err fault) within is h all in (refused_as old now (size_of bytes) bytes fault at.0 at.1.0, at.1.1)

@@ -65,8 +65,8 @@ gained a log x old l =
     subst (λ (r : ClientRun). Gained a log x old r) (same_brought a old.config (awaiting_of old.held) (max old.held.moment x.moment) (old.held.rest ++ x.bytes) l.config)
     (record { gains = subst (λ k. ClientGains a log (Came x) (client_gain a k (Came x))) l.held_is (came_gained a log x l.first l.accepted l.fine) })
 
-pub hands : (old shown : ClientShown) (x : Piece) (moment : ℕ) (new : ClientRunning) (given : List Answer) (used : ℕ) →
-    Hears (running old.config old.held moment) new (max old.held.moment x.moment) (old.held.rest ++ x.bytes) (record { bytes = old.output; answers = [] }) (record { bytes = shown.output; answers = given }) used →
+pub hands : (old shown : ClientShown) (x : Piece) (moment : ℕ) (new : ClientRunning) (given : List Answer) (left : List ℕ) →
+    Hears (running old.config old.held moment) new (max old.held.moment x.moment) (old.held.rest ++ x.bytes) (record { bytes = old.output; answers = [] }) (record { bytes = shown.output; answers = given }) left →
     shown ≡ record {
       config = new.config;
       held = record old.held {
@@ -75,13 +75,13 @@ pub hands : (old shown : ClientShown) (x : Piece) (moment : ℕ) (new : ClientRu
         due = new.waits.due;
         next = new.next;
         moment = max old.held.moment x.moment;
-        rest = drop used (old.held.rest ++ x.bytes);
+        rest = left;
       };
       output = shown.output;
       failed = old.failed;
     } →
     (a : Asker) (log : Log) → Lived a log old → Hands a log x old shown given
-hands old shown x moment new given used h s a log l =
+hands old shown x moment new given left h s a log l =
     let g = (gained a log x old l).gains in record {
       fine = g.fault_is ∙ h.fine;
       answered = g.answered ∙ ap (λ ys. answers_of a log ++ ys) (sym h.given);
@@ -125,9 +125,3 @@ breaks old shown x moment (ServerSaid status reason) h f a log l = fails old sho
 breaks old shown x moment (Broken status) h f a log l = fails old shown x moment (Broken status) h f a log l
 breaks old shown x moment NoMemory h f a log l = (more_sent a log x old l shown.output h, f)
 breaks old shown x moment Ended h f a log l = absurd h
-
--- where memory ran out before a byte was heard
-pub breaks_first : (old shown : ClientShown) (x : Piece) → shown.output ≡ old.output → shown.failed ≡ true →
-    (a : Asker) (log : Log) → Lived a log old → FailsBy a log x old shown NoMemory
-breaks_first old shown x e f a log l =
-    (more_sent a log x old l shown.output (record { said = []; left = _; begins = refl; added = e ∙ sym (append-nil old.output) }), f)

@@ -1,6 +1,6 @@
 -- What the bytes that a client has, all come at one moment, do to it.
-use Rattle.std.specs.Prelude.{◌≡◌, ℕ, ◌≤◌, List, ◌++◌, map, drop, length, Option, Some, None, Result, Ok, Err}
-use Rattle.ua_frame.specs.Streams.{at, plain, rest_of}
+use Rattle.std.specs.Prelude.{◌≡◌, ℕ, List, ◌++◌, map, Bool, true, false, Option, Some, None, Result, Ok, Err}
+use Rattle.ua_frame.specs.Streams.{at, plain, size_of, rest_of}
 use Rattle.ua_conn.specs.server.Feeding.{BeginsFrame, BeginsNoFrame, first_frame}
 use Rattle.ua_conn.specs.client.Faults.{client_fault_in_rest}
 use Rattle.ua_conn.specs.client.Sending.{Sent}
@@ -24,10 +24,10 @@ RefusedAs old now bytes NoMemory = Unit {0}
 RefusedAs old now bytes Ended = ⊥
 RefusedAs old now bytes fault = IsRefused old.config old.waits now bytes fault
 
--- what the front of the bytes did: nothing, where it waits for more, or a frame of n bytes was taken
-abbrev pub Steps : ClientRunning → ClientRunning → ℕ → List ℕ → Given → Given → Result (Option ℕ) ClientFault → Type 0
-Steps old new now bytes had has (Ok None) = BeginsNoFrame bytes × (client_fault_in_rest old.waits.known bytes ≡ None) × (new ≡ old) × (has ≡ had)
-Steps old new now bytes had has (Ok (Some n)) = BeginsFrame n bytes × Stands old new (first_frame now n bytes) had has
+-- what the front of the bytes did: nothing, where it waits for more, or a frame was taken
+abbrev pub Steps : ClientRunning → ClientRunning → ℕ → List ℕ → Given → Given → Result Bool ClientFault → Type 0
+Steps old new now bytes had has (Ok false) = BeginsNoFrame bytes × (client_fault_in_rest old.waits.known bytes ≡ None) × (new ≡ old) × (has ≡ had)
+Steps old new now bytes had has (Ok true) = BeginsFrame (size_of bytes) bytes × Stands old new (first_frame now (size_of bytes) bytes) had has
 Steps old new now bytes had has (Err fault) = RefusedAs old now bytes fault × (has.bytes ≡ had.bytes)
 
 -- ---- all of the bytes
@@ -35,16 +35,15 @@ Steps old new now bytes had has (Err fault) = RefusedAs old now bytes fault × (
 abbrev pub brought : ClientRunning → ℕ → List ℕ → ClientRun
 brought r now bytes = client_run_on (asker_with r.config) r.waits now bytes
 
--- no row refuses one of their frames
-pub record Hears (old new : ClientRunning) (now : ℕ) (bytes : List ℕ) (had has : Given) (used : ℕ) : Type 0 where
-  pub within : used ≤ length bytes
+-- no row refuses one of their frames; and what is left of them
+pub record Hears (old new : ClientRunning) (now : ℕ) (bytes : List ℕ) (had has : Given) (left : List ℕ) : Type 0 where
   pub fine : (brought old now bytes).fault ≡ None
   pub said : has.bytes ≡ had.bytes ++ sent_next old.next (brought old now bytes).says
   pub given : has.answers ≡ had.answers ++ (brought old now bytes).answers
   pub config : new.config ≡ old.config
   pub waits : new.waits ≡ (brought old now bytes).after
   pub number : new.next ≡ next_sent old.next (brought old now bytes).says
-  pub rest : drop used bytes ≡ plain (rest_of (map (at now) bytes))
+  pub rest : left ≡ plain (rest_of (map (at now) bytes))
 
 -- new is old with whole frames at its end, which begin what is said; next is the number of the first that has one
 pub record SaysPart (next : ℕ) (says : List Sent) (old new : List ℕ) : Type 0 where
@@ -63,17 +62,16 @@ BreaksBy old now bytes had has NoMemory = SaysPart old.next (brought old now byt
 BreaksBy old now bytes had has Ended = ⊥
 BreaksBy old now bytes had has fault = Breaks old now bytes had has fault
 
--- so many bytes are used, and the others bring what is left of all that they bring together
-pub record Hearing (old new : ClientRunning) (now : ℕ) (bytes : List ℕ) (had has : Given) (used : ℕ) : Type 0 where
-  pub within : used ≤ length bytes
+-- these bytes are left, and bring what is left of all that the bytes bring together
+pub record Hearing (old new : ClientRunning) (now : ℕ) (bytes : List ℕ) (had has : Given) (left : List ℕ) : Type 0 where
   pub said : List Sent
   pub hands : List Answer
-  pub brings : (brought old now bytes).says ≡ said ++ (brought new now (drop used bytes)).says
-  pub answers : (brought old now bytes).answers ≡ hands ++ (brought new now (drop used bytes)).answers
+  pub brings : (brought old now bytes).says ≡ said ++ (brought new now left).says
+  pub answers : (brought old now bytes).answers ≡ hands ++ (brought new now left).answers
   pub added : has.bytes ≡ had.bytes ++ sent_next old.next said
   pub given : has.answers ≡ had.answers ++ hands
-  pub fault_is : (brought old now bytes).fault ≡ (brought new now (drop used bytes)).fault
-  pub after_is : (brought old now bytes).after ≡ (brought new now (drop used bytes)).after
+  pub fault_is : (brought old now bytes).fault ≡ (brought new now left).fault
+  pub after_is : (brought old now bytes).after ≡ (brought new now left).after
   pub config : new.config ≡ old.config
   pub number : new.next ≡ next_sent old.next said
-  pub rest : plain (rest_of (map (at now) bytes)) ≡ plain (rest_of (map (at now) (drop used bytes)))
+  pub rest : plain (rest_of (map (at now) bytes)) ≡ plain (rest_of (map (at now) left))

@@ -1,9 +1,9 @@
 -- What a client's connection is made of, and the ranges that its numbers keep to.
-use Rattle.std.specs.Prelude.{◌≡◌, ℕ, ◌<◌, ◌^◌, List, Option, IfSome, false}
+use Rattle.std.specs.Prelude.{◌≡◌, ℕ, ◌<◌, ◌≤◌, ◌^◌, List, Option, IfSome, false, length}
 use Rattle.ua_frame.specs.declared.acknowledge.Ack.{Ack}
 use Rattle.ua_chunk.specs.Gathered.{Gathered}
 use Rattle.ua_chunk.specs.NumberLaws.{IsNumber}
-use Rattle.ua_chunk.specs.Half.{Half}
+use Rattle.ua_chunk.specs.Half.{Half, body_of}
 use Rattle.ua_channel.specs.Channel.{Shown}
 use Rattle.ua_service.specs.declared.request.Request.{Request}
 use Rattle.ua_conn.specs.server.Ranges.{IsBuffer}
@@ -22,10 +22,12 @@ pub record IsHalf (config : ClientConfig) (half : Gathered) : Type 0 where
   pub max_chunks : half.max_chunks ≡ config.max_chunks
   pub whole : half.whole ≡ false
   pub short : half.max_message < 2 ^ 32
+  pub bytes : length (body_of half.half) ≤ half.max_message
 
 pub record IsRunning (config : ClientConfig) (ack : Option Ack) (half : Gathered) (next : ℕ) : Type 0 where
   pub buffer : IsBuffer config.buffer
   pub accepted : IfSome ack IsAccepted
+  pub frames : IfSome ack (λ a. a.send ≤ config.buffer)
   pub between : IsHalf config half
   pub number : IsNumber next
 

@@ -3,6 +3,7 @@
 ghost use Rattle.std.specs.Prelude.{◌≡◌, ◌≤◌, ◌++◌, true, not, is_ok, None, Some, length, if◌then◌else◌, IfOk, OnOk, IfErr, OnErr};
 ghost use Rattle.ua_frame.specs.Streams.{moment_of as counted};
 ghost use Rattle.ua_chunk.specs.Cut.{part_count, fill};
+ghost use Rattle.ua_chunk.specs.Half.{body_of as body_bytes};
 ghost use Rattle.ua_chunk.specs.Numbers.{number_after};
 ghost use Rattle.ua_chunk.specs.Written.{message_frames};
 ghost use Rattle.ua_channel.specs.Token.{newest_id};
@@ -106,6 +107,8 @@ impl Connection {
         ensures unchanged { OnErr result (self.new ≡ self.old) }
         ensures unsaid { OnErr result (out.new.items ≡ out.old.items) }
         ensures moment { self.new.moment ≡ self.old.moment }
+        ensures config { self.new.config ≡ self.old.config }
+        ensures half { length (body_bytes self.new.waits.known.half) ≤ self.new.config.max_message }
     {
         let Ok(()) = self.pending.reserve() else {
             return Err(request);

@@ -3,6 +3,7 @@
 ghost use Rattle.std.specs.Prelude.{◌≡◌, ◌≤◌, ◌<◌, ◌^◌, [], Some, true, max, length, is_some, slice_get, option_map, IfOk};
 ghost use Rattle.ua_channel.specs.ClientChannel.{renewal_due};
 ghost use Rattle.ua_channel.specs.Token.{newest_id};
+ghost use Rattle.ua_chunk.specs.Half.{body_of};
 ghost use Rattle.ua_conn.specs.BothEnds.{IsConfig};
 ghost use Rattle.ua_conn.specs.client.Asking.{has_token_of};
 ghost use Rattle.ua_conn.specs.client.Past.{client_known};
@@ -69,6 +70,13 @@ impl Connection {
             due: Some(FIRST_ID),
             next: Sequence::starting_at(first_sequence),
         })
+    }
+
+    /// What is kept of a message is within the client's limit. A call does nothing: it is for proofs.
+    pub(crate) fn keeps_limits(&self)
+        ensures { length (body_of self.now.waits.known.half) ≤ self.now.config.max_message }
+    {
+        let _ = &self.half;
     }
 
     /// Whether a token was granted.

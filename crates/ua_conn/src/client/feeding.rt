@@ -1,10 +1,10 @@
 //! What a piece of the server's bytes brings.
 
-ghost use Rattle.std.specs.Prelude.{◌≡◌, ◌↔◌, true, false, IfOk, IfErr, OnErr, IsErrOf};
+ghost use Rattle.std.specs.Prelude.{◌≡◌, ◌≤◌, ◌↔◌, true, false, IfOk, IfErr, OnErr, IsErrOf};
 ghost use Rattle.ua_frame.specs.Streams.{moment_of as counted};
+ghost use Rattle.ua_conn.specs.client.Bound.{held_bytes, most_held};
 ghost use Rattle.ua_conn.specs.client.Feeding.{HandsAll, FailsAll};
 
-use crate::bytes::remove_front;
 use crate::client::hearing::hear;
 use crate::client::{Answer, Client, ClientFault};
 use crate::moment::later;
@@ -25,29 +25,32 @@ impl Client {
         ensures failed { OnErr result (self.new.failed ≡ true) }
         ensures ended { IsErrOf result ClientFault.Ended ↔ (self.old.failed ≡ true) }
         ensures unchanged { self.old.failed ≡ true → self.new ≡ self.old }
+
+        // What is held of the input fits the room that was reserved once.
+        ensures bound { held_bytes self.new.held ≤ most_held self.new.config }
     {
         if self.failed {
             return Err(ClientFault::Ended);
         }
         self.failed = true;
         let now = later(self.moment, now);
-        let Ok(()) = self.rest.extend_from_slice(piece) else {
-            return Err(ClientFault::NoMemory);
-        };
         let mut answers = Vec::new(self.alloc);
-        let used = match hear(
+        let heard = hear(
             &mut self.connection,
             now,
-            &self.rest,
+            &mut self.buffer,
+            piece,
             &mut answers,
             &mut self.output,
-        ) {
-            Ok(used) => used,
-            Err(fault) => return Err(fault),
-        };
-        remove_front(&mut self.rest, used);
-        self.moment = now;
-        self.failed = false;
-        Ok(answers)
+        );
+        self.connection.keeps_limits();
+        match heard {
+            Ok(()) => {
+                self.moment = now;
+                self.failed = false;
+                Ok(answers)
+            }
+            Err(fault) => Err(fault),
+        }
     }
 }

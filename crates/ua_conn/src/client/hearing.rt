@@ -1,62 +1,75 @@
-//! The frames that some bytes of a server begin with, one after another.
+//! The frames of a piece of a server's bytes, one after another.
 
-ghost use Rattle.std.specs.Prelude.{◌≡◌, ◌<◌, ◌≤◌, ◌^◌, IfOk, IfErr, OnOk};
+ghost use Rattle.std.specs.Prelude.{◌≡◌, ◌<◌, ◌≤◌, ◌++◌, ◌^◌, length, false, Ok, IfErr, OnOk};
 ghost use Rattle.ua_conn.specs.client.Hearing.{Steps, Hears, BreaksBy};
 
 use crate::client::answer::Answer;
 use crate::client::connection::Connection;
 use crate::client::fault::ClientFault;
-use ua_frame::frame_at;
+use ua_frame::FrameBuf;
 
-/// Bytes of a frame's header.
-const HEADER: usize = 8;
-
-/// Takes the frame at the front of the bytes, where a whole one is there. The result is how many bytes it has.
+/// Takes the frame at the front of the buffer, where a whole one is there. It stays there; the result says whether
+/// there was one.
 fn take_front(
     connection: &mut Connection,
     now: u64,
-    bytes: &[u8],
+    buffer: &FrameBuf,
     answers: &mut Vec<Answer>,
     out: &mut Vec<u8>,
-) -> Result<Option<usize>, ClientFault>
+) -> Result<bool, ClientFault>
     requires moment { connection.old.moment ≤ now }
     requires stamp { now < 2 ^ 63 }
-    ensures step { Steps connection.old connection.new now bytes.now
+    requires room { connection.old.config.buffer ≤ buffer.now.capacity }
+    ensures step { Steps connection.old connection.new now buffer.now.bytes
         (record { bytes = out.old.items; answers = answers.old.items }) (record { bytes = out.new.items; answers = answers.new.items }) result }
     ensures moment { OnOk result (connection.new.moment ≤ now) }
+    ensures config { connection.new.config ≡ connection.old.config }
+
+    // A full buffer has a whole frame, or a header that is refused.
+    ensures room { result ≡ Ok false → length buffer.now.bytes < buffer.now.capacity }
 {
-    let frame = match frame_at(bytes, connection.greatest_frame()) {
+    let frame = match buffer.first(connection.greatest_frame()) {
         Ok(Some(frame)) => frame,
-        Ok(None) => return Ok(None),
+        Ok(None) => return Ok(false),
         Err(status) => return Err(ClientFault::Broken(status)),
     };
     match connection.take(&frame, now, answers, out) {
-        Ok(()) => Ok(Some(HEADER + frame.fields().len())),
+        Ok(()) => Ok(true),
         Err(fault) => Err(fault),
     }
 }
 
-/// Takes the frames that the bytes begin with, as far as they are whole, up to the first that is refused. The result
-/// is how many bytes they have.
+/// Takes the whole frames of the buffer and of the piece behind it, up to the first that is refused. The buffer has
+/// what is left, with room for the longest frame.
 pub(crate) fn hear(
     connection: &mut Connection,
     now: u64,
-    bytes: &[u8],
+    buffer: &mut FrameBuf,
+    piece: &[u8],
     answers: &mut Vec<Answer>,
     out: &mut Vec<u8>,
-) -> Result<usize, ClientFault>
+) -> Result<(), ClientFault>
     requires moment { connection.old.moment ≤ now }
     requires stamp { now < 2 ^ 63 }
-    ensures heard { IfOk result (λ used. Hears connection.old connection.new now bytes.now
-        (record { bytes = out.old.items; answers = answers.old.items }) (record { bytes = out.new.items; answers = answers.new.items }) used) }
-    ensures breaks { IfErr result (λ fault. BreaksBy connection.old now bytes.now out.old.items out.new.items fault) }
+    requires room { connection.old.config.buffer ≤ buffer.old.capacity }
+    ensures heard { OnOk result (Hears connection.old connection.new now (buffer.old.bytes ++ piece.now)
+        (record { bytes = out.old.items; answers = answers.old.items }) (record { bytes = out.new.items; answers = answers.new.items }) buffer.new.bytes) }
+    ensures breaks { IfErr result (λ fault. BreaksBy connection.old now (buffer.old.bytes ++ piece.now) out.old.items out.new.items fault) }
     ensures moment { OnOk result (connection.new.moment ≤ now) }
+    ensures config { connection.new.config ≡ connection.old.config }
+    ensures capacity { buffer.new.capacity ≡ buffer.old.capacity }
+    ensures bound { length buffer.new.bytes ≤ buffer.new.capacity }
 {
-    let mut used = 0;
+    let mut read = buffer.push(piece);
     'frames: loop {
-        match take_front(connection, now, &bytes[used..], answers, out) {
-            Ok(None) => return Ok(used),
-            Ok(Some(len)) => used += len,
+        match take_front(connection, now, buffer, answers, out) {
+            Ok(true) => buffer.drop_first(),
+            Ok(false) => {
+                if read == piece.len() {
+                    return Ok(());
+                }
+                read += buffer.push(&piece[read..]);
+            }
             Err(fault) => return Err(fault),
         }
     }

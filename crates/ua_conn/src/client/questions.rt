@@ -1,6 +1,7 @@
 //! What a client says for itself.
 
-ghost use Rattle.std.specs.Prelude.{◌≡◌, ◌<◌, ◌^◌, ◌++◌, true, pos, is_ok, if◌then◌else◌, IfOk};
+ghost use Rattle.std.specs.Prelude.{◌≡◌, ◌≤◌, ◌<◌, ◌^◌, ◌++◌, true, pos, is_ok, length, if◌then◌else◌, IfOk};
+ghost use Rattle.ua_chunk.specs.Half.{body_of as body_bytes};
 ghost use Rattle.ua_chunk.specs.Numbers.{number_after};
 ghost use Rattle.ua_chunk.specs.Written.{open_frame, close_frame};
 ghost use Rattle.ua_channel.specs.Token.{newest_id};
@@ -96,6 +97,7 @@ impl Connection {
         requires { now < 2 ^ 63 }
         ensures said { out.new.items ≡ (if is_ok result then out.old.items ++ open_frame self.old.waits.known.channel self.old.next id (open_asked_body now id 1 self.old.config.lifetime) else out.old.items) }
         ensures after { self.new ≡ (if is_ok result then waiting_to self.old (waits_open self.old.waits id) (number_after self.old.next 1) else self.old) }
+        ensures half { length (body_bytes self.new.waits.known.half) ≤ self.new.config.max_message }
     {
         let channel = self.channel.id();
         self.say_open(channel, id, Asks::Renew, now, out)?;
@@ -109,6 +111,7 @@ impl Connection {
         requires stamp { now < 2 ^ 63 }
         ensures said { out.new.items ≡ (if is_ok result then out.old.items ++ close_frame self.old.waits.known.channel (newest_id self.old.waits.known.tokens) self.old.next id (close_asked_body now id) else out.old.items) }
         ensures after { self.new ≡ (if is_ok result then numbered_to self.old (number_after self.old.next 1) else self.old) }
+        ensures half { length (body_bytes self.new.waits.known.half) ≤ self.new.config.max_message }
     {
         let body = close_asked_body(self.alloc, now, id)?;
         let channel = self.channel.id();

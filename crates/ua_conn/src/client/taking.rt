@@ -22,7 +22,8 @@ use ua_frame::{Frame, Kind};
 impl Connection {
     /// Bytes of the longest frame that is taken next.
     pub(crate) fn greatest_frame(&self) -> u32
-        ensures { result ≡ greatest_answer self.now.waits.known.ack }
+        ensures is { result ≡ greatest_answer self.now.waits.known.ack }
+        ensures within { result ≤ self.now.config.buffer }
     {
         match self.ack {
             None => GREATEST_FIRST_FRAME,
@@ -61,6 +62,7 @@ impl Connection {
         ensures took { (bytes : List ℕ) → IsFrameOf bytes frame.now → header_fault (greatest_answer self.old.waits.known.ack) bytes ≡ None →
             Takes self.old self.new (record { bytes = bytes; moment = now }) (record { bytes = out.old.items; answers = answers.old.items }) (record { bytes = out.new.items; answers = answers.new.items }) result }
         ensures moment { self.new.moment ≤ now }
+        ensures config { self.new.config ≡ self.old.config }
     {
         let kind = frame.kind();
         if let Kind::Error = kind {

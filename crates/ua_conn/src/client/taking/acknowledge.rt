@@ -1,6 +1,6 @@
 //! The first frame of a server.
 
-ghost use Rattle.std.specs.Prelude.{◌≡◌, ◌<◌, ◌^◌, Some, List, true, IfOk};
+ghost use Rattle.std.specs.Prelude.{◌≡◌, ◌<◌, ◌≤◌, ◌^◌, Some, List, true, IfOk};
 ghost use Rattle.ua_frame.specs.Hello.{acknowledge_of};
 ghost use Rattle.ua_conn.specs.server.Ranges.{IsBuffer};
 ghost use Rattle.ua_conn.specs.client.Asker.{hello_by};
@@ -38,7 +38,7 @@ fn hello_of(config: &ClientConfig) -> Hello
 fn agree(config: &ClientConfig, frame: &Frame) -> Result<Ack, ClientFault>
     requires kind { frame.now.kind ≡ Kind.Acknowledge }
     requires buffer { IsBuffer config.now.buffer }
-    ensures { Judges (broken (acknowledge_rows (asker_with config.now) (acknowledge_of frame.now.fields))) (λ ack. (acknowledge_of frame.now.fields ≡ Some ack) × IsAccepted ack) result }
+    ensures { Judges (broken (acknowledge_rows (asker_with config.now) (acknowledge_of frame.now.fields))) (λ ack. (acknowledge_of frame.now.fields ≡ Some ack) × IsAccepted ack × (ack.send ≤ config.now.buffer)) result }
 {
     let ack = Ack::read(frame)?;
     if !acceptable(&hello_of(config), &ack) {
@@ -60,6 +60,7 @@ impl Connection {
         ensures does { (answers : List Given) → Does (acknowledge_effect self.old.config self.old.waits now (acknowledge_of frame.now.fields)) self.old self.new
             (record { bytes = out.old.items; answers = answers }) (record { bytes = out.new.items; answers = answers }) result }
         ensures moment { self.new.moment ≡ self.old.moment }
+        ensures config { self.new.config ≡ self.old.config }
     {
         let ack = agree(&self.config, frame)?;
         self.ack = Some(ack);

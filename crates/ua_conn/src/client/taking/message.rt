@@ -6,7 +6,7 @@ ghost use Rattle.ua_frame.specs.Rows.{first_row};
 ghost use Rattle.ua_frame.specs.declared.kind.Kind.TheVariants as kinds;
 ghost use Rattle.ua_chunk.specs.Layout.{chunk_of};
 ghost use Rattle.ua_chunk.specs.Assembly.{half_of};
-ghost use Rattle.ua_chunk.specs.Half.{may_have_id, other_request_id};
+ghost use Rattle.ua_chunk.specs.Half.{body_of, may_have_id, other_request_id};
 ghost use Rattle.ua_service.specs.Responses.{response_of};
 ghost use Rattle.ua_conn.specs.client.Faults.{broken, whole_rows, fits};
 ghost use Rattle.ua_conn.specs.client.Machine.{waiting_under, without};
@@ -82,6 +82,7 @@ fn gather(
     ensures whole { half.new.whole ≡ false }
     ensures max_message { half.new.max_message ≡ half.old.max_message }
     ensures max_chunks { half.new.max_chunks ≡ half.old.max_chunks }
+    ensures bytes { length (body_of half.new.half) ≤ half.new.max_message }
 {
     match half.add(chunk)? {
         Added::More => Ok(None),
@@ -139,6 +140,7 @@ impl Connection {
         ensures does { (bytes : List ℕ) → Does (answer_effect self.old.config self.old.waits now frame.now.flag (chunk_of frame.now.fields)) self.old self.new
             (record { bytes = bytes; answers = answers.old.items }) (record { bytes = bytes; answers = answers.new.items }) result }
         ensures moment { self.new.moment ≤ now }
+        ensures config { self.new.config ≡ self.old.config }
     {
         let chunk = heard(&mut self.channel, frame, now)?;
         let id = chunk.request_id();

@@ -83,6 +83,7 @@ impl Connection {
         ensures does { (bytes : List ℕ) (answers : List Given) → Does (opening_effect self.old.waits now (open_chunk_of frame.now.fields)) self.old self.new
             (record { bytes = bytes; answers = answers }) (record { bytes = bytes; answers = answers }) result }
         ensures moment { self.new.moment ≤ now }
+        ensures config { self.new.config ≡ self.old.config }
     {
         let opening = opening_of(frame)?;
         admit(&mut self.channel, &self.half, self.due, &opening)?;

@@ -20,6 +20,6 @@ returns-clause-accepted c =
     let moment : c.later-now.result ≡ max s.moment now = c.later-now.ensures.moment ∙ ap (λ z. max s.moment (moment_of z)) (to_z-of_z w64 c.args.now c.ranges.now) in
     let says : ℕ → List ℕ = λ m. s.output.items ++ close_frame s.connection.waits.known.channel (newest_id s.connection.waits.known.tokens) s.connection.next s.next_id (close_asked_body m s.next_id) in
     rw (← c.self.view_is)
-    (subst (λ m. AcceptsAll (shown_of s.connection s.closed s.next_id s.moment s.rest.items s.output.items s.failed) now Close (shown_of c.close.new.self true (s.next_id + 1) m s.rest.items c.close.new.out.items s.failed)) (sym moment)
-    (closes s.connection c.close.new.self s.closed s.failed s.next_id s.moment now s.rest.items s.output.items c.close.new.out.items
+    (subst (λ m. AcceptsAll (shown_of s.connection s.closed s.next_id s.moment s.buffer.bytes s.output.items s.failed) now Close (shown_of c.close.new.self true (s.next_id + 1) m s.buffer.bytes c.close.new.out.items s.failed)) (sym moment)
+    (closes s.connection c.close.new.self s.closed s.failed s.next_id s.moment now s.buffer.bytes s.output.items c.close.new.out.items
     (subst (λ (v : ClientShown). against v Close ≡ None) (sym c.self.view_is) (sym c.in_default.ensures)) (c.in_ok-close.ensures.said ∙ ap says moment) c.in_ok-close.ensures.after))

@@ -19,6 +19,6 @@ returns-clause-accepted c =
     let moment : c.later-now.result ≡ max s.moment now = c.later-now.ensures.moment ∙ ap (λ z. max s.moment (moment_of z)) (to_z-of_z w64 c.args.now c.ranges.now) in
     let says : ℕ → List ℕ = λ m. s.output.items ++ open_frame s.connection.waits.known.channel s.connection.next s.next_id (open_asked_body m s.next_id 1 s.connection.config.lifetime) in
     rw (← c.self.view_is)
-    (subst (λ m. AcceptsAll (shown_of s.connection s.closed s.next_id s.moment s.rest.items s.output.items s.failed) now Renew (shown_of c.renew.new.self s.closed (s.next_id + 1) m s.rest.items c.renew.new.out.items s.failed)) (sym moment)
-    (renews s.connection c.renew.new.self s.closed s.failed s.next_id s.moment now s.rest.items s.output.items c.renew.new.out.items
+    (subst (λ m. AcceptsAll (shown_of s.connection s.closed s.next_id s.moment s.buffer.bytes s.output.items s.failed) now Renew (shown_of c.renew.new.self s.closed (s.next_id + 1) m s.buffer.bytes c.renew.new.out.items s.failed)) (sym moment)
+    (renews s.connection c.renew.new.self s.closed s.failed s.next_id s.moment now s.buffer.bytes s.output.items c.renew.new.out.items
     (subst (λ (v : ClientShown). against v Renew ≡ None) (sym c.self.view_is) (sym c.in_default.ensures)) (c.in_ok-renew.ensures.said ∙ ap says moment) c.in_ok-renew.ensures.after))

@@ -1,38 +1,52 @@
-use Rattle.std.proofs.Common.{arith}
-use Rattle.std.proofs.lemmas.List.{take_rest}
-use Rattle.ua_conn.proofs.ClientEnd.FeedLemmas.{starts, waits, goes_on, breaks, falls}
+use Rattle.std.proofs.Common.{arith, length, ap, ◌∙◌}
+use Rattle.std.proofs.lemmas.List.{length-drop, take_rest}
+use Rattle.ua_frame.specs.Streams.{size_of}
+use Rattle.ua_conn.proofs.BufferedLemmas.{IsPush, pushed_on, push_within, nothing_behind}
+use Rattle.ua_conn.proofs.ClientEnd.FeedLemmas.{starts_with, waits_whole, reads_on, breaks, goes_on}
 use Rattle.ua_conn.proofs.client.hearing.hear.Goals as goal
 
 pub frames-init : goal.frames-init
-frames-init c = record { heard = starts c.args.connection.now c.args.now c.args.bytes.now _; within = omega arith; moment = c.requires.moment }
-
-pub frames-preserved : goal.frames-preserved
-frames-preserved c =
-    let s = rw take_rest at (rw c.in-Ok-Some.field-0-is at (rw c.in-Ok-Some.is at c.take_front.ensures.step)) in
-    record {
-      heard = goes_on c.frames.invariant.heard s;
-      within = (falls _ _ c.args.now c.args.bytes.now _ _ c.frames.used c.in-Ok-Some.len c.frames.invariant.within s).1;
-      moment = c.in-Ok-Some.ensures.moment;
-    }
-
-pub frames-smaller : goal.frames-smaller
-frames-smaller c =
-    let s = rw take_rest at (rw c.in-Ok-Some.field-0-is at (rw c.in-Ok-Some.is at c.take_front.ensures.step)) in
-    let fall = falls _ _ c.args.now c.args.bytes.now _ _ c.frames.used c.in-Ok-Some.len c.frames.invariant.within s in
-    omega (arith, fall.0, fall.1)
-
-pub overflow_add-used : goal.overflow_add-used
-overflow_add-used c =
-    let s = rw take_rest at (rw c.in-Ok-Some.field-0-is at (rw c.in-Ok-Some.is at c.take_front.ensures.step)) in
-    let fall = falls _ _ c.args.now c.args.bytes.now _ _ c.frames.used c.in-Ok-Some.len c.frames.invariant.within s in
-    omega (arith, fall.1)
-
-pub returns-in-Ok-None-clause-heard : goal.returns-in-Ok-None-clause-heard
-returns-in-Ok-None-clause-heard c =
-    let s = rw take_rest at (rw c.in-Ok-None.field-0-is at (rw c.in-Ok-None.is at c.take_front.ensures.step)) in
-    waits c.frames.invariant.heard s
+frames-init c = record {
+  heard = starts_with c.args.connection.now c.args.now _ c.args.buffer.now.bytes c.args.piece.now c.push-read.new.self.bytes c.push-read.result c.push-read.ensures.bytes;
+  within = omega (arith, c.push-read.ensures.taken);
+  moment = c.requires.moment;
+  capacity = c.push-read.ensures.capacity;
+  bound = c.push-read.ensures.bound;
+}
 
 pub returns-in-Err-clause-breaks : goal.returns-in-Err-clause-breaks
 returns-in-Err-clause-breaks c =
-    let s = rw take_rest at (rw c.in-Err.is at c.take_front.ensures.step) in
-    breaks c.take_front.new.connection (record { bytes = c.take_front.new.out.items; answers = c.take_front.new.answers.items }) c.in-Err.fault c.frames.invariant.heard s
+    let s = rw c.in-Err.is at c.take_front.ensures.step in
+    breaks _ _ c.take_front.new.connection (record { bytes = c.take_front.new.out.items; answers = c.take_front.new.answers.items }) c.in-Err.fault c.frames.invariant.heard s
+
+pub frames-preserved-in-Ok-true : goal.frames-preserved-in-Ok-true
+frames-preserved-in-Ok-true c =
+    let s = rw c.in-Ok-true.field-0-test at (rw c.in-Ok-true.is at c.take_front.ensures.step) in
+    let front = c.frames.buffer.bytes in
+    record {
+      heard = rw c.drop_first.ensures.bytes (goes_on _ c.frames.invariant.heard s);
+      within = c.frames.invariant.within;
+      moment = c.in-Ok-true.ensures.moment;
+      capacity = c.drop_first.ensures.capacity ∙ c.frames.invariant.capacity;
+      bound = omega (arith, c.drop_first.ensures.capacity, c.frames.invariant.bound, ap length c.drop_first.ensures.bytes, length-drop (size_of front) front);
+    }
+
+pub frames-preserved : goal.frames-preserved
+frames-preserved c =
+    let s = rw c.in-Ok-false.field-0-test at (rw c.in-Ok-false.is at c.take_front.ensures.step) in
+    let front = c.frames.buffer.bytes in
+    let new = c.push-read-in-Ok-false.new.self.bytes in
+    let p : IsPush c.push-read-in-Ok-false.result c.frames.read c.frames.buffer.capacity front c.args.piece.now new =
+    record { taken = rw take_rest at c.push-read-in-Ok-false.ensures.taken; bytes = rw take_rest at c.push-read-in-Ok-false.ensures.bytes } in
+    record {
+      heard = reads_on c.frames.invariant.heard s _ (pushed_on c.push-read-in-Ok-false.result c.frames.read front c.args.piece.now new p.bytes);
+      within = push_within c.push-read-in-Ok-false.result c.frames.read c.frames.buffer.capacity front c.args.piece.now new p c.frames.invariant.within;
+      moment = c.in-Ok-false.ensures.moment;
+      capacity = c.push-read-in-Ok-false.ensures.capacity ∙ c.frames.invariant.capacity;
+      bound = c.push-read-in-Ok-false.ensures.bound;
+    }
+
+pub returns-then-read-piece-clause-heard : goal.returns-then-read-piece-clause-heard
+returns-then-read-piece-clause-heard c =
+    let s = rw c.in-Ok-false.field-0-test at (rw c.in-Ok-false.is at c.take_front.ensures.step) in
+    waits_whole c.frames.invariant.heard (nothing_behind c.frames.read c.frames.buffer.bytes c.args.piece.now (omega arith)) s

@@ -1,13 +1,15 @@
-use Rattle.std.proofs.Common.{◌≤◌, ◌-◌, length}
+use Rattle.std.proofs.Common.{◌≡◌, ◌≤◌, ◌-◌, ◌+◌, ◌++◌, drop, length}
 use Rattle.ua_conn.specs.client.Hearing.{Hearing}
 use Rattle.ua_conn.proofs.client.hearing.hear.Given as goal
 
 abbrev pub invariant-frames : goal.invariant-frames
 invariant-frames l = record {
-  heard : Hearing l.fn.connection l.connection l.now l.bytes (record { bytes = l.fn.out.items; answers = l.fn.answers.items }) (record { bytes = l.out.items; answers = l.answers.items }) l.used;
-  within : l.used ≤ length l.bytes;
+  heard : Hearing l.fn.connection l.connection l.now (l.fn.buffer.bytes ++ l.piece) (record { bytes = l.fn.out.items; answers = l.fn.answers.items }) (record { bytes = l.out.items; answers = l.answers.items }) (l.buffer.bytes ++ drop l.read l.piece);
+  within : l.read ≤ length l.piece;
   moment : l.connection.moment ≤ l.now;
+  capacity : l.buffer.capacity ≡ l.fn.buffer.capacity;
+  bound : length l.buffer.bytes ≤ l.buffer.capacity;
 }
 
 abbrev pub decreases-frames : goal.decreases-frames
-decreases-frames l = length l.bytes - l.used
+decreases-frames l = (length l.piece - l.read) + ((length l.piece - l.read) + length l.buffer.bytes)
