@@ -29,6 +29,8 @@ mod keys;
 #[cfg(test)]
 mod limits;
 #[cfg(test)]
+mod links;
+#[cfg(test)]
 mod many;
 #[cfg(test)]
 mod memory;
