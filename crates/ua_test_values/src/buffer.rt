@@ -41,10 +41,7 @@ fn drops_a_frame(buffer: &mut FrameBuf) -> bool {
 /// Whether a full buffer has room for its first frame once that is dropped, and begins with the next.
 fn is_emptied(buffer: &mut FrameBuf) -> bool {
     let zeros = [0; 100];
-    drops_a_frame(buffer)
-        && buffer.push(&zeros) == 56
-        && !buffer.is_empty()
-        && has_no_type(buffer)
+    drops_a_frame(buffer) && buffer.push(&zeros) == 56 && !buffer.is_empty() && has_no_type(buffer)
 }
 
 fn takes_what_fits(buffer: &mut FrameBuf) -> bool {
