@@ -135,7 +135,7 @@ fn cut(alloc: Global, input: &[u8], len: usize) -> Result<Vec<(i64, &[u8])>, All
     Ok(pieces)
 }
 
-fn answers_in_pieces(
+pub(crate) fn answers_in_pieces(
     alloc: Global,
     settings: &Settings,
     input: &[u8],

@@ -9,6 +9,8 @@ mod arrays;
 #[cfg(test)]
 mod bodies;
 #[cfg(test)]
+mod buffer;
+#[cfg(test)]
 mod counts;
 #[cfg(test)]
 mod depth;

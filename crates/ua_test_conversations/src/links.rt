@@ -1,0 +1,470 @@
+//! A server over links: one that takes little at once, one that fails, and one over loopback.
+
+ghost use Rattle.std.specs.Prelude.{◌≡◌, false};
+
+use crate::bytes::joined;
+use crate::vectors::{
+    ACKNOWLEDGE, CLOSE_REQUEST, FIND_REQUEST, FIND_RESPONSE, HELLO, OPEN_REQUEST, OPEN_RESPONSE,
+};
+use std::alloc::Global;
+use std::io::{Read, Write};
+use std::net::{Shutdown, TcpListener, TcpStream};
+use std::time::Duration;
+use ua_conn::{Client, ClientConfig, End, Server};
+use ua_disco::{DEFAULT, Settings};
+use ua_link::{
+    ClientTurn, Clock, Link, LinkFault, MemoryLink, Report, TcpLink, pump, pump_client,
+    serve_connection,
+};
+use ua_value::UaString;
+
+/// A client that opens a channel, asks for servers and closes: 338 bytes.
+const CALLS: [&[u8]; 4] = [HELLO, OPEN_REQUEST, FIND_REQUEST, CLOSE_REQUEST];
+
+/// What it is answered: 297 bytes.
+const REPLIES: [&[u8]; 3] = [ACKNOWLEDGE, OPEN_RESPONSE, FIND_RESPONSE];
+
+/// The bytes that one send takes.
+const SEND_LIMIT: usize = 100;
+
+/// The turns of a connection, and no limit of the calls of its link.
+const TURNS: u32 = 16;
+
+const NO_FUSE: u32 = 64;
+
+/// How many seconds a read over loopback waits at most.
+const PATIENCE: u64 = 20;
+
+/// A clock that stands still.
+#[derive(Clone, Copy)]
+struct StillClock;
+
+impl Clock for StillClock {
+    fn now(&mut self) -> i64 {
+        0
+    }
+}
+
+/// A link over memory that passes so many calls on, and fails each one behind them.
+#[derive(Drop)]
+struct FuseLink<'a> {
+    inner: MemoryLink<'a>,
+    calls: u32,
+    failures: u64,
+}
+
+impl<'a> FuseLink<'a> {
+    /// Whether the next call is passed on; it counts as one.
+    fn passes(&mut self) -> bool
+        ensures { self.new.failures ≡ self.old.failures }
+    {
+        if self.calls == 0 {
+            return false;
+        }
+        self.calls -= 1;
+        true
+    }
+}
+
+impl<'a> Link for FuseLink<'a> {
+    ghost fault_count = { λ l. l.failures };
+
+    fn recv(&mut self, buf: &mut [u8]) -> Result<usize, LinkFault> {
+        if self.passes() && self.inner.failures() < u64::MAX {
+            if let Ok(n) = self.inner.recv(buf) {
+                return Ok(n);
+            }
+        }
+        self.failures += 1;
+        Err(LinkFault)
+    }
+
+    fn send(&mut self, bytes: &[u8]) -> Result<usize, LinkFault> {
+        if self.passes() && self.inner.failures() < u64::MAX {
+            if let Ok(n) = self.inner.send(bytes) {
+                return Ok(n);
+            }
+        }
+        self.failures += 1;
+        Err(LinkFault)
+    }
+
+    fn failures(&self) -> u64 {
+        self.failures
+    }
+}
+
+fn settings(alloc: Global) -> Option<Settings> {
+    Settings::from_toml(alloc, DEFAULT.as_bytes()).ok()
+}
+
+/// What came of a connection: its end, how many bytes it wrote, and how many reads it made.
+type Came = (End, u128, usize);
+
+fn came_of(report: &Report) -> Came {
+    (report.end, report.written, report.cuts.len())
+}
+
+/// Serves the calls over a link that passes so many calls of its own on, and says what came of it and how many it
+/// passed; nothing where what was sent is no beginning of the replies, of just as many bytes as the report says.
+fn served(alloc: Global, settings: &Settings, calls: u32, turns: u32) -> Option<(Came, u32)> {
+    let mut link = FuseLink {
+        inner: MemoryLink::new(alloc, &CALLS, SEND_LIMIT),
+        calls,
+        failures: 0,
+    };
+    let report = serve_connection(alloc, settings, 1, &mut link, &mut StillClock, turns);
+    let Ok(replies) = joined(alloc, &REPLIES) else {
+        return None;
+    };
+    let sent = link.inner.sent();
+    if !replies.as_slice().starts_with(sent) || sent.len() as u128 != report.written {
+        return None;
+    }
+    Some((came_of(&report), calls.saturating_sub(link.calls)))
+}
+
+/// For each count of calls that a link passes on: how many bytes went out, and how many reads were made.
+const FUSES: [(u32, u128, usize); 9] = [
+    (0, 0, 0),
+    (1, 0, 1),
+    (2, 28, 1),
+    (3, 28, 2),
+    (4, 128, 2),
+    (5, 163, 2),
+    (6, 163, 3),
+    (7, 263, 3),
+    (8, 297, 3),
+];
+
+fn fails_so(alloc: Global, settings: &Settings) -> bool {
+    let mut same = true;
+    for (calls, written, reads) in FUSES {
+        let want = Some(((End::LinkFailed, written, reads), calls));
+        same &= served(alloc, settings, calls, TURNS) == want;
+    }
+    same
+}
+
+/// It takes nine calls of the link to serve them all.
+fn is_served_whole(alloc: Global, settings: &Settings) -> bool {
+    let whole = (End::Closed, 297, 4);
+    served(alloc, settings, 9, TURNS) == Some((whole, 9))
+        && served(alloc, settings, NO_FUSE, TURNS) == Some((whole, 9))
+}
+
+#[test]
+fn a_link_that_fails_ends_the_connection(rt: HostRuntime) {
+    let same = match settings(rt.alloc()) {
+        Some(settings) => {
+            fails_so(rt.alloc(), &settings) && is_served_whole(rt.alloc(), &settings)
+        }
+        None => false,
+    };
+    assert!(rt; same);
+}
+
+fn is_spent(alloc: Global, settings: &Settings) -> bool {
+    served(alloc, settings, NO_FUSE, 0) == Some(((End::TurnsSpent, 0, 0), 0))
+        && served(alloc, settings, NO_FUSE, 3) == Some(((End::TurnsSpent, 297, 3), 8))
+        && served(alloc, settings, NO_FUSE, 4) == Some(((End::Closed, 297, 4), 9))
+}
+
+#[test]
+fn turns_may_be_spent_first(rt: HostRuntime) {
+    let spent = match settings(rt.alloc()) {
+        Some(settings) => is_spent(rt.alloc(), &settings),
+        None => false,
+    };
+    assert!(rt; spent);
+}
+
+/// How a connection ends whose client sends these pieces and no more.
+fn end_of(alloc: Global, settings: &Settings, pieces: &[&[u8]]) -> Came {
+    let mut link = MemoryLink::new(alloc, pieces, SEND_LIMIT);
+    let report = serve_connection(alloc, settings, 1, &mut link, &mut StillClock, TURNS);
+    came_of(&report)
+}
+
+/// Empty pieces are passed over.
+fn ends_with_its_input(alloc: Global, settings: &Settings) -> bool {
+    end_of(alloc, settings, &[]) == (End::InputEnded, 0, 1)
+        && end_of(alloc, settings, &[b"", HELLO, b""]) == (End::InputEnded, 28, 2)
+        && end_of(alloc, settings, &[b"HELF"]) == (End::Truncated, 0, 2)
+        && end_of(alloc, settings, &[b"GET / HTTP/1.1\r\n"]) == (End::Refused(0x807E_0000), 16, 1)
+}
+
+#[test]
+fn a_connection_ends_with_its_input(rt: HostRuntime) {
+    let ends = match settings(rt.alloc()) {
+        Some(settings) => ends_with_its_input(rt.alloc(), &settings),
+        None => false,
+    };
+    assert!(rt; ends);
+}
+
+/// Both ends of a connection over loopback.
+#[derive(Drop)]
+struct Loopback {
+    near: TcpStream,
+    far: TcpStream,
+}
+
+/// The client connects before the server accepts, so neither waits.
+fn connected(rt: &HostRuntime) -> Option<Loopback> {
+    let Ok(listener) = TcpListener::bind(rt, "127.0.0.1:0") else {
+        return None;
+    };
+    let Ok(address) = listener.local_addr() else {
+        return None;
+    };
+    let Ok(near) = TcpStream::connect(rt, address) else {
+        return None;
+    };
+    match listener.accept() {
+        Ok((far, _)) => Some(Loopback { near, far }),
+        Err(_) => None,
+    }
+}
+
+fn is_patient(both: &Loopback) -> bool {
+    let patience = Some(Duration::from_secs(PATIENCE));
+    both.near.set_read_timeout(patience).is_ok() && both.far.set_read_timeout(patience).is_ok()
+}
+
+/// Whether just these bytes come, and then the end where `last`.
+fn hears(stream: &mut TcpStream, bytes: &[u8], last: bool) -> bool {
+    let mut piece = [0u8; 512];
+    let mut heard = 0;
+    for _ in 0..32 {
+        if heard == bytes.len() && !last {
+            return true;
+        }
+        let Ok(n) = stream.read(&mut piece) else {
+            return false;
+        };
+        if n == 0 {
+            return last && heard == bytes.len();
+        }
+        if !bytes[heard.min(bytes.len())..].starts_with(&piece[..n]) {
+            return false;
+        }
+        heard = heard.saturating_add(n).min(bytes.len());
+    }
+    false
+}
+
+fn calls_all(stream: &mut TcpStream) -> bool {
+    for call in CALLS {
+        if stream.write_all(call).is_err() {
+            return false;
+        }
+    }
+    stream.shutdown(Shutdown::Write).is_ok()
+}
+
+/// The client says all, is served, and then hears all.
+fn is_served_over_loopback(rt: &HostRuntime, settings: &Settings, both: Loopback) -> bool {
+    let patient = is_patient(&both);
+    let Loopback { mut near, far } = both;
+    let called = patient && calls_all(&mut near);
+    let (end, written, _) = serves(rt.alloc(), settings, far);
+    called && end == End::Closed && written == 297 && hears_all(rt.alloc(), &mut near)
+}
+
+/// Serves a stream, which is closed then.
+fn serves(alloc: Global, settings: &Settings, far: TcpStream) -> Came {
+    let mut link = TcpLink::new(far);
+    let report = serve_connection(alloc, settings, 1, &mut link, &mut StillClock, TURNS);
+    came_of(&report)
+}
+
+fn hears_all(alloc: Global, near: &mut TcpStream) -> bool {
+    match joined(alloc, &REPLIES) {
+        Ok(replies) => hears(near, replies.as_slice(), true),
+        Err(_) => false,
+    }
+}
+
+#[test]
+fn a_client_is_served_over_loopback(rt: HostRuntime) {
+    let served = match (settings(rt.alloc()), connected(&rt)) {
+        (Some(settings), Some(both)) => is_served_over_loopback(&rt, &settings, both),
+        _ => false,
+    };
+    assert!(rt; served);
+}
+
+/// A link over loopback whose client says its next call before each read, and hears the reply to the one before first.
+#[derive(Drop)]
+struct TurnsLink {
+    near: TcpStream,
+    far: TcpLink,
+    turn: usize,
+    right: bool,
+    failures: u64,
+}
+
+impl TurnsLink {
+    fn hear_and_say(&mut self)
+        ensures { self.new.failures ≡ self.old.failures }
+    {
+        let turn = self.turn;
+        let heard = match turn.checked_sub(1) {
+            Some(before) => match REPLIES.get(before) {
+                Some(reply) => hears(&mut self.near, reply, false),
+                None => false,
+            },
+            None => true,
+        };
+        let said = match CALLS.get(turn) {
+            Some(call) => self.near.write_all(call).is_ok(),
+            None => false,
+        };
+        self.right = self.right && heard && said;
+        self.turn = turn.saturating_add(1);
+    }
+}
+
+impl Link for TurnsLink {
+    ghost fault_count = { λ l. l.failures };
+
+    fn recv(&mut self, buf: &mut [u8]) -> Result<usize, LinkFault> {
+        self.hear_and_say();
+        if self.far.failures() < u64::MAX {
+            if let Ok(n) = self.far.recv(buf) {
+                return Ok(n);
+            }
+        }
+        self.failures += 1;
+        Err(LinkFault)
+    }
+
+    fn send(&mut self, bytes: &[u8]) -> Result<usize, LinkFault> {
+        if self.far.failures() < u64::MAX {
+            if let Ok(n) = self.far.send(bytes) {
+                return Ok(n);
+            }
+        }
+        self.failures += 1;
+        Err(LinkFault)
+    }
+
+    fn failures(&self) -> u64 {
+        self.failures
+    }
+}
+
+fn takes_turns(alloc: Global, settings: &Settings, both: Loopback) -> bool {
+    let patient = is_patient(&both);
+    let Loopback { near, far } = both;
+    let mut link = TurnsLink {
+        near,
+        far: TcpLink::new(far),
+        turn: 0,
+        right: true,
+        failures: 0,
+    };
+    let report = serve_connection(alloc, settings, 1, &mut link, &mut StillClock, TURNS);
+    let came = came_of(&report);
+    patient && came == (End::Closed, 297, 4) && link.right && link.turn == 4
+}
+
+#[test]
+fn a_client_and_a_server_take_turns_over_loopback(rt: HostRuntime) {
+    let turns = match (settings(rt.alloc()), connected(&rt)) {
+        (Some(settings), Some(both)) => takes_turns(rt.alloc(), &settings, both),
+        _ => false,
+    };
+    assert!(rt; turns);
+}
+
+fn is_one_turn(alloc: Global, server: &mut Server) -> bool
+    requires { server.old.failed ≡ false }
+{
+    let Ok(calls) = joined(alloc, &CALLS) else {
+        return false;
+    };
+    let pieces = [calls.as_slice()];
+    let mut link = MemoryLink::new(alloc, &pieces, SEND_LIMIT);
+    let turn = pump(alloc, server, &mut link, &mut StillClock);
+    turn.cut == Some((0, 338))
+        && turn.written == 297
+        && turn.requests.len() == 1
+        && turn.end == Some(End::Closed)
+}
+
+fn takes_one_turn(alloc: Global, settings: &Settings) -> bool {
+    match Server::new(alloc, settings, 1) {
+        Ok(mut server) => is_one_turn(alloc, &mut server),
+        Err(_) => false,
+    }
+}
+
+#[test]
+fn one_turn_takes_all_that_came(rt: HostRuntime) {
+    let turn = match settings(rt.alloc()) {
+        Some(settings) => takes_one_turn(rt.alloc(), &settings),
+        None => false,
+    };
+    assert!(rt; turn);
+}
+
+const CONFIG: ClientConfig = ClientConfig {
+    buffer: 65535,
+    max_message: 0x10_0000,
+    max_chunks: 64,
+    lifetime: 0,
+};
+
+/// What a turn of a client came to: how many answers, or the name of its end.
+fn came_to(turn: ClientTurn) -> Result<usize, &'static str> {
+    match turn {
+        ClientTurn::Answers(answers) => Ok(answers.len()),
+        ClientTurn::InputEnded => Err("input ended"),
+        ClientTurn::LinkFailed => Err("link failed"),
+        ClientTurn::Fault(_) => Err("fault"),
+    }
+}
+
+/// The Acknowledge, which the open request follows, and the end of the input.
+fn is_pumped(alloc: Global, client: &mut Client) -> bool {
+    let mut link = FuseLink {
+        inner: MemoryLink::new(alloc, &[ACKNOWLEDGE], SEND_LIMIT),
+        calls: 5,
+        failures: 0,
+    };
+    let first = came_to(pump_client(client, &mut link, &mut StillClock));
+    let hello = link.inner.sent().len();
+    let second = if link.failures == 0 {
+        came_to(pump_client(client, &mut link, &mut StillClock))
+    } else {
+        Err("")
+    };
+    let third = if link.failures == 0 {
+        came_to(pump_client(client, &mut link, &mut StillClock))
+    } else {
+        Err("")
+    };
+    first == Ok(0)
+        && hello == 56
+        && second == Err("input ended")
+        && link.inner.sent().ends_with(OPEN_REQUEST)
+        && third == Err("link failed")
+        && link.failures == 1
+}
+
+fn a_client_is_pumped(alloc: Global) -> bool {
+    let Ok(url) = UaString::new(alloc, "opc.tcp://localhost:4840") else {
+        return false;
+    };
+    match Client::new(alloc, CONFIG, &url, 1) {
+        Ok(mut client) => is_pumped(alloc, &mut client),
+        Err(_) => false,
+    }
+}
+
+#[test]
+fn a_client_takes_turns_over_a_link(rt: HostRuntime) {
+    assert!(rt; a_client_is_pumped(rt.alloc()));
+}
