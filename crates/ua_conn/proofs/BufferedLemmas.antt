@@ -1,9 +1,8 @@
 -- Bytes in a buffer, and more of a piece behind them: what both ends read at their front.
-use Rattle.std.proofs.Common.{◌≡◌, ℕ, ◌+◌, ◌-◌, ◌*◌, ◌<◌, ◌≤◌, List, [], ◌++◌, take, drop, length, min, refl, sym, ap, subst, ◌∙◌, append_assoc, arith}
-use Rattle.std.proofs.lemmas.List.{append-nil, length-take, length-take-le, length-drop, length-append, take-append-le, drop-append-le, take-append-drop, drop-drop, drop_all}
+use Rattle.std.proofs.Common.{◌≡◌, ℕ, ◌+◌, ◌-◌, ◌<◌, ◌≤◌, List, ◌++◌, take, drop, length, min, sym, ap, subst, ◌∙◌, append_assoc, arith}
+use Rattle.std.proofs.lemmas.List.{append-nil, length-take-le, length-drop, length-append, take-append-le, drop-append-le, take-append-drop, drop-drop, drop_all}
 use Rattle.ua_frame.specs.Streams.{IsFrame, size_of}
 use Rattle.ua_frame.specs.StreamLaws.{size_append}
-use Rattle.ua_frame.specs.Layout.{Frame}
 use Rattle.ua_conn.specs.server.Feeding.{BeginsFrame, first_frame}
 
 -- ---- a frame at the front of the buffer is the one at the front of all

@@ -1,5 +1,4 @@
 -- What a client is made of.
-use Rattle.std.proofs.Common.{◌≡◌}
 use Rattle.ua_conn.specs.client.Bound.{IsAll}
 use Rattle.ua_conn.specs.declared.client.Client.TheInside.{Inside}
 

@@ -1,5 +1,5 @@
 -- Frames that come to a client, taken one after another from bytes that came at one moment.
-use Rattle.std.proofs.Common.{◌≡◌, ℕ, ◌+◌, ◌≤◌, List, [], ◌∷◌, ◌++◌, map, take, drop, length, true, false, Option, Some, None, Ok, Err, refl, sym, ap, subst, ◌∙◌, append_assoc, arith, inl, inr}
+use Rattle.std.proofs.Common.{◌≡◌, ℕ, List, [], ◌∷◌, ◌++◌, map, take, drop, true, false, Option, Some, None, Ok, Err, refl, sym, ap, subst, ◌∙◌, append_assoc, arith, inl, inr}
 use Rattle.std.specs.Prelude.{option_map}
 use Rattle.std.proofs.lemmas.List.{append-nil, length-take-le}
 use Rattle.ua_frame.specs.Rows.{first_row, or_else}
@@ -226,7 +226,3 @@ breaks {new = new} {now = now} front more new2 has2 (ServerSaid status reason) h
 breaks {new = new} {now = now} front more new2 has2 (Broken status) h s = stopped h (refused_further new.config new.waits now front more (Broken status) s.0) s.1
 breaks front more new2 has2 NoMemory h s = record { said = h.said; left = _; begins = h.brings; added = s.1 ∙ h.added }
 breaks front more new2 has2 Ended h s = absurd s.0
-
--- each frame has bytes
-pub falls : (old new : ClientRunning) (now : ℕ) (front : List ℕ) (had has : Given) → Steps old new now front had has (Ok true) → (8 ≤ size_of front) × (size_of front ≤ length front)
-falls old new now front had has s = (omega (arith, s.0.frame.header, length-take-le (size_of front) front s.0.within), s.0.within)

@@ -1,5 +1,5 @@
 -- What stands at the front of some bytes that came to a client, as it was found there.
-use Rattle.std.proofs.Common.{◌≡◌, ℕ, ◌≤◌, true, List, length, take, Option, Some, None, Result, Ok, Err, refl, ap, ◌∙◌, arith}
+use Rattle.std.proofs.Common.{◌≡◌, ℕ, ◌≤◌, true, List, length, take, Some, None, Result, Ok, Err, refl, ap, ◌∙◌, arith}
 use Rattle.std.proofs.lemmas.List.{length-take-le}
 use Rattle.std.specs.Prelude.{option_map}
 use Rattle.ua_frame.specs.Streams.{size_of}
@@ -12,7 +12,7 @@ use Rattle.ua_conn.specs.client.Faults.{greatest_answer, client_fault_in_rest}
 use Rattle.ua_conn.specs.client.Machine.{awaiting_fault}
 use Rattle.ua_conn.specs.client.Taking.{ClientRunning}
 use Rattle.ua_conn.specs.client.Effects.{asker_with, Given, FaultIs, Takes}
-use Rattle.ua_conn.specs.client.Hearing.{by_header, by_frame, IsRefused, RefusedAs, Steps}
+use Rattle.ua_conn.specs.client.Hearing.{by_header, by_frame, RefusedAs, Steps}
 use Rattle.ua_conn.specs.declared.client.fault.ClientFault.{ClientFault}
 use Rattle.ua_conn.specs.declared.client.fault.ClientFault.TheVariants.{ServerSaid, Broken, NoMemory, Ended}
 

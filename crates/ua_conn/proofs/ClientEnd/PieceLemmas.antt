@@ -1,6 +1,5 @@
 -- From the bytes of one more piece to all that happened to a client.
-use Rattle.std.proofs.Common.{◌≡◌, ℕ, max, true, List, [], ◌∷◌, ◌++◌, map, drop, Option, Some, None, refl, sym, ap, subst, ◌∙◌}
-use Rattle.std.proofs.lemmas.List.{append-nil}
+use Rattle.std.proofs.Common.{◌≡◌, ℕ, max, true, List, [], ◌∷◌, ◌++◌, map, Option, Some, None, refl, sym, ap, subst, ◌∙◌}
 use Rattle.ua_frame.specs.Streams.{Piece, at, plain, rest_of}
 use Rattle.ua_frame.specs.Layout.{Frame, frames_of}
 use Rattle.ua_conn.specs.client.Asker.{Asker}

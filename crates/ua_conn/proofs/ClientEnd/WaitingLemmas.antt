@@ -1,5 +1,5 @@
 -- What is pending, as a map from ids and as a list in the order of asking.
-use Rattle.std.proofs.Common.{◌≡◌, ℕ, Bool, true, false, cond, nat_eq, ◌==◌, List, [], ◌∷◌, Option, Some, None, refl, sym, ap, ◌∙◌, true≢false}
+use Rattle.std.proofs.Common.{◌≡◌, ℕ, Bool, true, false, cond, nat_eq, ◌==◌, List, [], ◌∷◌, Some, None, refl, sym, ap, ◌∙◌, true≢false}
 use Rattle.std.specs.Prelude.{not, option_map}
 use Rattle.std.specs.List.{filter, find}
 use Rattle.std.specs.Map.{lookup, remove_entry}

@@ -1,5 +1,5 @@
 -- From the bytes of one more piece to all pieces.
-use Rattle.std.proofs.Common.{◌≡◌, ℕ, max, false, true, List, [], ◌∷◌, ◌++◌, map, Option, Some, None, refl, sym, ap, subst, ◌∙◌}
+use Rattle.std.proofs.Common.{◌≡◌, ℕ, max, false, true, List, [], ◌∷◌, ◌++◌, map, Option, Some, None, sym, ap, subst, ◌∙◌}
 use Rattle.std.proofs.lemmas.List.{append-nil}
 use Rattle.ua_frame.specs.Streams.{Piece, at, plain, timed, latest, rest_of}
 use Rattle.ua_frame.specs.Layout.{frames_of}

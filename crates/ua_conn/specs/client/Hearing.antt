@@ -1,5 +1,5 @@
 -- What the bytes that a client has, all come at one moment, do to it.
-use Rattle.std.specs.Prelude.{◌≡◌, ℕ, List, ◌++◌, map, Bool, true, false, Option, Some, None, Result, Ok, Err}
+use Rattle.std.specs.Prelude.{◌≡◌, ℕ, List, ◌++◌, map, Bool, true, false, Some, None, Result, Ok, Err}
 use Rattle.ua_frame.specs.Streams.{at, plain, size_of, rest_of}
 use Rattle.ua_conn.specs.server.Feeding.{BeginsFrame, BeginsNoFrame, first_frame}
 use Rattle.ua_conn.specs.client.Faults.{client_fault_in_rest}

@@ -1,7 +1,7 @@
 -- What a MSG brings to a client's channel, and a part of an answer to those before it.
 use Rattle.std.specs.Prelude.{◌≡◌, ℕ, ◌<◌, ◌^◌, true, ◌==◌, List, [], ◌∷◌, ◌++◌, length, Option, Some, None, option_map, if◌then◌else◌}
 use Rattle.ua_frame.specs.Layout.{Parts}
-use Rattle.ua_frame.specs.Rows.{Row, first_row}
+use Rattle.ua_frame.specs.Rows.{Row}
 use Rattle.ua_chunk.specs.Layout.{FlaggedChunk, chunk_of, with_flag, abort_of}
 use Rattle.ua_chunk.specs.Half.{Half, body_of, message_too_large, abort_malformed, half_after}
 use Rattle.ua_chunk.specs.Gathered.{Gathered}

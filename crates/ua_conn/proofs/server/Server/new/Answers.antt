@@ -1,4 +1,4 @@
-use Rattle.std.proofs.Common.{◌≡◌, arith, length, false, ap, sym, ◌∙◌}
+use Rattle.std.proofs.Common.{arith, length, false, ap, sym, ◌∙◌}
 use Rattle.ua_frame.specs.Buffer.{Buffered}
 use Rattle.ua_frame.specs.Streams.{cuts_within, rest_within}
 use Rattle.ua_frame.specs.declared.limits.Limits.{Limits}
