@@ -1,4 +1,5 @@
 pub mod Rows
+pub mod Parsers
 pub mod Lines
 pub mod Values
 pub mod Asked

@@ -6,13 +6,14 @@ use Rattle.uadisc.specs.Settings.{IsSettings}
 use Rattle.uadisc.specs.Stop.{IsSettingsStop, IsInputStop, IsAnswerStop}
 use Rattle.uadisc.specs.declared.settings.Source.{Source}
 use Rattle.uadisc.specs.declared.stop.Stop.{Stop}
-use Rattle.uadisc.specs.declared.stop.Stop.TheVariants.{Words, Settings, Line, File, NoMemory}
+use Rattle.uadisc.specs.declared.stop.Stop.TheVariants.{Words, Settings, Line, File, Link, NoMemory}
 
 pub settings_stop : (source : Source) (left : Option (List ℕ)) (stop : Stop) → IsSettingsStop source stop → IsAnswerStop source left stop
 settings_stop source left (Words text) h = h
 settings_stop source left (Settings fault) h = h
 settings_stop source left (Line number) h = absurd h
 settings_stop source left File h = tt
+settings_stop source left Link h = absurd h
 settings_stop source left NoMemory h = tt
 
 input_stop : (source : Source) (settings : Configuration) (left : Option (List ℕ)) (stop : Stop) → IsSettings source settings → IsInputStop left stop → IsAnswerStop source left stop
@@ -20,6 +21,7 @@ input_stop source settings left (Words text) s h = h
 input_stop source settings left (Settings fault) s h = absurd h
 input_stop source settings left (Line number) s h = (settings, s, h)
 input_stop source settings left File s h = tt
+input_stop source settings left Link s h = absurd h
 input_stop source settings left NoMemory s h = tt
 
 pub stopped_by : (source : Source) (settings : Configuration) (left : Option (List ℕ)) (r : Result ℕ Stop) → IsSettings source settings → IfErr r (IsInputStop left) → IfErr r (IsAnswerStop source left)

@@ -9,4 +9,6 @@ pub mod Capture
 pub mod End
 pub mod Answer
 pub mod Show
+pub mod Serve
+pub mod Ask
 pub mod Run

@@ -11,18 +11,19 @@ use Rattle.ua_disco.specs.Configuration.{Configuration}
 use Rattle.ua_disco.specs.declared.fault.SettingsFault.{SettingsFault}
 use Rattle.ua_disco.specs.declared.fault.SettingsFault.TheVariants as settings
 use Rattle.uadisc.specs.declared.stop.Stop.{Stop}
-use Rattle.uadisc.specs.declared.stop.Stop.TheVariants.{Words, Settings, Line, File, NoMemory}
+use Rattle.uadisc.specs.declared.stop.Stop.TheVariants.{Words, Settings, Line, File, Link, NoMemory}
 use Rattle.uadisc.specs.declared.input.InputFault.{InputFault}
 use Rattle.uadisc.specs.declared.input.InputFault.TheVariants as input
 use Rattle.uadisc.specs.declared.script.ScriptFault.{ScriptFault}
 use Rattle.uadisc.specs.declared.script.ScriptFault.TheVariants as script
 
--- 1 for input that is refused, 2 for words, 3 for a file, 4 for want of memory; 0 is done
+-- 1 for input that is refused, 2 for words, 3 for a file or a link, 4 for want of memory; 0 is done
 abbrev pub status_of : Stop → ℕ
 status_of (Line number) = 1
 status_of (Settings fault) = 1
 status_of (Words text) = 2
 status_of File = 3
+status_of Link = 3
 status_of NoMemory = 4
 
 abbrev pub stop_of_input : InputFault → Stop
@@ -47,6 +48,7 @@ IsFileStop (Settings fault) = ⊥
 IsFileStop (Line number) = ⊥
 IsFileStop (Words text) = ⊥
 IsFileStop File = Unit {0}
+IsFileStop Link = ⊥
 IsFileStop NoMemory = Unit {0}
 
 -- the first fault of a text of settings, or want of memory
@@ -55,6 +57,7 @@ IsTextStop text (Settings fault) = IsFaultOf (settings_of text) fault
 IsTextStop text (Line number) = ⊥
 IsTextStop text (Words words) = ⊥
 IsTextStop text File = ⊥
+IsTextStop text Link = ⊥
 IsTextStop text NoMemory = Unit {0}
 
 -- Settings that stop the command are refused with the fault. A file may fail to be read, and memory may run out.
@@ -63,6 +66,7 @@ IsSettingsStop source (Settings fault) = RefusesSource source fault
 IsSettingsStop source (Line number) = ⊥
 IsSettingsStop source (Words text) = ⊥
 IsSettingsStop source File = source ≡ Default → ⊥
+IsSettingsStop source Link = ⊥
 IsSettingsStop source NoMemory = Unit {0}
 
 -- A line that stops the command is the first bad one of what the reader gave. A failed read or write, and want of memory, may come at any lines.
@@ -71,6 +75,7 @@ IsInputStop left (Line number) = (text : List ℕ) × IsInput left text × (scri
 IsInputStop left (Settings fault) = ⊥
 IsInputStop left (Words text) = ⊥
 IsInputStop left File = Unit {0}
+IsInputStop left Link = ⊥
 IsInputStop left NoMemory = Unit {0}
 
 -- what stops the command `answer`: first its settings, and where these are good its input
@@ -79,6 +84,7 @@ IsAnswerStop source left (Settings fault) = RefusesSource source fault
 IsAnswerStop source left (Line number) = (settings : Configuration) × IsSettings source settings × IsInputStop left (Line number)
 IsAnswerStop source left (Words text) = ⊥
 IsAnswerStop source left File = Unit {0}
+IsAnswerStop source left Link = ⊥
 IsAnswerStop source left NoMemory = Unit {0}
 
 -- nothing was printed where the stop is none of a file
@@ -92,4 +98,5 @@ stop_text (Words text) = Some (string_bytes text)
 stop_text (Settings fault) = None
 stop_text (Line number) = Some (codes "line " ++ decimal number ++ codes "\n")
 stop_text File = Some (codes "file\n")
+stop_text Link = Some (codes "link\n")
 stop_text NoMemory = Some (codes "memory\n")

@@ -24,7 +24,7 @@ const CHANNEL: u32 = 1;
 
 /// How a connection ended, as the command prints it.
 #[derive(Clone, Copy)]
-struct Ending(End);
+pub struct Ending(pub End);
 
 impl fmt::Display for Ending {
     ghost output = { λ e. Some (end_text e.0) };

@@ -1,11 +1,12 @@
 //! The words of the command.
 
-ghost use Rattle.std.specs.Prelude.{◌≡◌, IfOk, IfErr, false, map};
+ghost use Rattle.std.specs.Prelude.{◌≡◌, ℕ, IfOk, IfErr, MatchOption, Some, codes, false, map};
 ghost use Rattle.clap.specs.Words.{app_of, rule_of, subcommand_rows_of, first_value, found_of};
 ghost use Rattle.clap.specs.declared.builder.command.Command.TheViews.{out-Command};
 ghost use Rattle.clap.specs.Values.{kind_of};
-ghost use Rattle.uadisc.specs.Command.{Asks, AsksFor, IsWordsFault, IsErrorFault, RefusedBy, NothingBy, IsAnswerOf, IsValueOf, IsShowOf, word_rule, type_rule, answer_app, value_app, show_app, plain, answer_or_value, uadisc};
+ghost use Rattle.uadisc.specs.Command.{Asks, AsksFor, IsWordsFault, IsErrorFault, IsNamed, IsCount, IsSourceOf, RefusedBy, NothingBy, word_rule, named_rule, type_rule, count_rule, answer_app, value_app, show_app, serve_app, ask_app, plain, answer_or_value, without_links, without_ask, uadisc_with};
 
+use crate::ask::{Question, question_names, question_of};
 use crate::settings::Source;
 use crate::show::Capture;
 use crate::type_name::{TypeName, names, of_name};
@@ -14,6 +15,9 @@ use clap::error::ErrorKind;
 use clap::{Arg, ArgAction, ArgMatches, Command as Parser};
 use hex::FromHexError;
 use std::alloc::{AllocError, Global};
+
+/// The most bytes of a url. OPC 10000-6, 7.1.2.3.
+const LONGEST_URL: usize = 4095;
 
 /// The version of the program, and the line by which its kit tells itself apart (`rt version`).
 const VERSION: &str = "0.1.0 (rattle-kit-13b logic dac8208d650f15bf)";
@@ -27,6 +31,18 @@ pub enum Command {
     Value { kind: TypeName, bytes: Vec<u8> },
     /// Show the frames of this capture.
     Show(Capture),
+    /// Serve so many connections, one after the other, at this address, by the settings of this source.
+    Serve {
+        source: Source,
+        address: String,
+        connections: u16,
+    },
+    /// Ask this of the server at an address, which the client calls by this url.
+    Ask {
+        question: Question,
+        address: String,
+        url: String,
+    },
 }
 
 /// Why the words are no command.
@@ -61,14 +77,35 @@ fn required<'a>(alloc: Global, id: &'a str, name: &'a str, help: &'a str) -> Arg
         .help(help)
 }
 
+/// A word that has to be one of these names.
+fn named<'a>(alloc: Global, id: &'a str, name: &'a str, help: &'a str, names: &'a [&'a str]) -> Arg<'a>
+    ensures local { result.global ≡ false }
+    ensures rule { rule_of result ≡ named_rule id.entry.now names.entry }
+{
+    required(alloc, id, name, help).value_parser(ValueParser::Names(names))
+}
+
 /// The word that has to be one of the names of the types.
 fn type_word<'a>(alloc: Global, names: &'a [&'a str]) -> Arg<'a>
     ensures local { result.global ≡ false }
     ensures rule { rule_of result ≡ type_rule names.entry }
 {
-    required(alloc, "type", "TYPE", "The built-in type of the value").value_parser(
-        ValueParser::Names(names),
+    named(alloc, "type", "TYPE", "The built-in type of the value", names)
+}
+
+/// How many connections are served.
+fn count_word<'a>(alloc: Global) -> Arg<'a>
+    ensures local { result.global ≡ false }
+    ensures rule { rule_of result ≡ count_rule }
+{
+    required(
+        alloc,
+        "connections",
+        "N",
+        "How many connections are served, from 1 to 65535",
     )
+    .long("connections")
+    .value_parser(ValueParser::Unsigned(1, 65535))
 }
 
 fn answer_parser<'a>(alloc: Global) -> Result<Parser<'a>, AllocError>
@@ -109,6 +146,48 @@ fn show_parser<'a>(alloc: Global) -> Result<Parser<'a>, AllocError>
         ))
 }
 
+fn serve_parser<'a>(alloc: Global) -> Result<Parser<'a>, AllocError>
+    ensures app { IfOk result (λ c. app_of c ≡ serve_app) }
+    ensures local { IfOk result (λ c. (out-Command c).has_globals ≡ false) }
+{
+    Parser::new(alloc, "serve")
+        .about("Serves connections over TCP, one after the other, and says how each one ended")
+        .arg(required(
+            alloc,
+            "settings",
+            "SETTINGS",
+            "A file of settings in TOML, or `default` for the built-in ones",
+        ))?
+        .arg(required(
+            alloc,
+            "address",
+            "ADDR",
+            "An address and a port to listen at, as `127.0.0.1:4840`; port 0 takes a free one",
+        ))?
+        .arg(count_word(alloc))
+}
+
+fn ask_parser<'a>(alloc: Global, names: &'a [&'a str]) -> Result<Parser<'a>, AllocError>
+    ensures app { IfOk result (λ c. app_of c ≡ ask_app names.entry) }
+    ensures local { IfOk result (λ c. (out-Command c).has_globals ≡ false) }
+{
+    Parser::new(alloc, "ask")
+        .about("Asks a server over TCP for the servers that it knows, or for its endpoints")
+        .arg(named(alloc, "question", "WHAT", "What to ask for", names))?
+        .arg(required(
+            alloc,
+            "address",
+            "ADDR",
+            "The address and port of the server, as `127.0.0.1:4840`",
+        ))?
+        .arg(required(
+            alloc,
+            "url",
+            "URL",
+            "The url by which the server is called, of at most 4095 bytes",
+        ))
+}
+
 /// The program without its commands, with the texts of its help and its version.
 fn program<'a>(alloc: Global) -> Result<Parser<'a>, AllocError>
     ensures app { IfOk result (λ c. app_of c ≡ plain) }
@@ -131,12 +210,33 @@ fn answer_or_value_parser<'a>(alloc: Global, names: &'a [&'a str]) -> Result<Par
     program(alloc)?.subcommand(answer)?.subcommand(value)
 }
 
-fn parser<'a>(alloc: Global, names: &'a [&'a str]) -> Result<Parser<'a>, AllocError>
-    ensures app { IfOk result (λ c. app_of c ≡ uadisc names.entry) }
+fn without_links_parser<'a>(alloc: Global, names: &'a [&'a str]) -> Result<Parser<'a>, AllocError>
+    ensures app { IfOk result (λ c. app_of c ≡ without_links names.entry) }
     ensures local { IfOk result (λ c. (out-Command c).has_globals ≡ false) }
 {
     let show = show_parser(alloc)?;
     answer_or_value_parser(alloc, names)?.subcommand(show)
+}
+
+fn without_ask_parser<'a>(alloc: Global, names: &'a [&'a str]) -> Result<Parser<'a>, AllocError>
+    ensures app { IfOk result (λ c. app_of c ≡ without_ask names.entry) }
+    ensures local { IfOk result (λ c. (out-Command c).has_globals ≡ false) }
+{
+    let serve = serve_parser(alloc)?;
+    without_links_parser(alloc, names)?.subcommand(serve)
+}
+
+/// The program, with the names of the types and those of the questions.
+fn parser<'a>(
+    alloc: Global,
+    types: &'a [&'a str],
+    questions: &'a [&'a str],
+) -> Result<Parser<'a>, AllocError>
+    ensures app { IfOk result (λ c. app_of c ≡ uadisc_with types.entry questions.entry) }
+    ensures local { IfOk result (λ c. (out-Command c).has_globals ≡ false) }
+{
+    let ask = ask_parser(alloc, questions)?;
+    without_ask_parser(alloc, types)?.subcommand(ask)
 }
 
 /// The command that the words are, which are those after the program's name.
@@ -153,7 +253,7 @@ pub fn command_of(alloc: Global, words: &[&str]) -> Result<Command, WordsFault>
     ensures asked { IfOk result (AsksFor (map (λ w. w.now) words.entry.now)) }
     ensures refused { IfErr result (IsWordsFault (map (λ w. w.now) words.entry.now)) }
 {
-    let Ok(parser) = parser(alloc, names()) else {
+    let Ok(parser) = parser(alloc, names(), question_names()) else {
         return Err(WordsFault::NoMemory);
     };
     match parser.try_get_matches_from(words) {
@@ -205,13 +305,15 @@ fn command_in(alloc: Global, matches: &ArgMatches) -> Result<Command, WordFault>
         "answer" => answer_in(alloc, inner),
         "value" => value_in(alloc, inner),
         "show" => show_in(alloc, inner),
+        "serve" => serve_in(alloc, inner),
+        "ask" => ask_in(alloc, inner),
         _ => Err(WordFault::Bad),
     }
 }
 
 fn answer_in(alloc: Global, matches: &ArgMatches) -> Result<Command, WordFault>
-    ensures asked { IfOk result (IsAnswerOf (first_value (found_of matches.now))) }
-    ensures refused { IfErr result (RefusedBy (IsAnswerOf (first_value (found_of matches.now)))) }
+    ensures asked { IfOk result (IsNamed (codes "answer") (first_value (found_of matches.now))) }
+    ensures refused { IfErr result (RefusedBy (IsNamed (codes "answer") (first_value (found_of matches.now)))) }
 {
     match matches.get_str("settings") {
         Some("default") => Ok(Command::Answer(Source::Default)),
@@ -224,8 +326,8 @@ fn answer_in(alloc: Global, matches: &ArgMatches) -> Result<Command, WordFault>
 }
 
 fn value_in(alloc: Global, matches: &ArgMatches) -> Result<Command, WordFault>
-    ensures asked { IfOk result (IsValueOf (first_value (found_of matches.now))) }
-    ensures refused { IfErr result (RefusedBy (IsValueOf (first_value (found_of matches.now)))) }
+    ensures asked { IfOk result (IsNamed (codes "value") (first_value (found_of matches.now))) }
+    ensures refused { IfErr result (RefusedBy (IsNamed (codes "value") (first_value (found_of matches.now)))) }
 {
     let Some(name) = matches.get_str("type") else {
         return Err(WordFault::Bad);
@@ -244,8 +346,8 @@ fn value_in(alloc: Global, matches: &ArgMatches) -> Result<Command, WordFault>
 }
 
 fn show_in(alloc: Global, matches: &ArgMatches) -> Result<Command, WordFault>
-    ensures asked { IfOk result (IsShowOf (first_value (found_of matches.now))) }
-    ensures refused { IfErr result (RefusedBy (IsShowOf (first_value (found_of matches.now)))) }
+    ensures asked { IfOk result (IsNamed (codes "show") (first_value (found_of matches.now))) }
+    ensures refused { IfErr result (RefusedBy (IsNamed (codes "show") (first_value (found_of matches.now)))) }
 {
     match matches.get_str("file") {
         Some("-") => Ok(Command::Show(Capture::Input)),
@@ -254,5 +356,86 @@ fn show_in(alloc: Global, matches: &ArgMatches) -> Result<Command, WordFault>
             Err(_) => Err(WordFault::NoMemory),
         },
         None => Err(WordFault::Bad),
+    }
+}
+
+/// The number of connections that a text is, from 1 to 65535.
+fn count_of(text: &str) -> Option<u16>
+    ensures { MatchOption result ((n : ℕ) → IsCount text.now n → ⊥) (IsCount text.now) }
+{
+    match text.parse::<u16>() {
+        Ok(0) => None,
+        Ok(n) => Some(n),
+        Err(_) => None,
+    }
+}
+
+fn source_of(alloc: Global, text: &str) -> Result<Source, AllocError>
+    ensures { IfOk result (IsSourceOf (Some text.now)) }
+{
+    match text {
+        "default" => Ok(Source::Default),
+        path => Ok(Source::File(String::from_str(alloc, path)?)),
+    }
+}
+
+fn serve_in(alloc: Global, matches: &ArgMatches) -> Result<Command, WordFault>
+    ensures asked { IfOk result (IsNamed (codes "serve") (first_value (found_of matches.now))) }
+    ensures refused { IfErr result (RefusedBy (IsNamed (codes "serve") (first_value (found_of matches.now)))) }
+{
+    let Some(settings) = matches.get_str("settings") else {
+        return Err(WordFault::Bad);
+    };
+    let Some(address) = matches.get_str("address") else {
+        return Err(WordFault::Bad);
+    };
+    let Some(connections) = matches.get_str("connections") else {
+        return Err(WordFault::Bad);
+    };
+    let Some(connections) = count_of(connections) else {
+        return Err(WordFault::Bad);
+    };
+    let Ok(address) = String::from_str(alloc, address) else {
+        return Err(WordFault::NoMemory);
+    };
+    match source_of(alloc, settings) {
+        Ok(source) => Ok(Command::Serve {
+            source,
+            address,
+            connections,
+        }),
+        Err(_) => Err(WordFault::NoMemory),
+    }
+}
+
+fn ask_in(alloc: Global, matches: &ArgMatches) -> Result<Command, WordFault>
+    ensures asked { IfOk result (IsNamed (codes "ask") (first_value (found_of matches.now))) }
+    ensures refused { IfErr result (RefusedBy (IsNamed (codes "ask") (first_value (found_of matches.now)))) }
+{
+    let Some(question) = matches.get_str("question") else {
+        return Err(WordFault::Bad);
+    };
+    let Some(address) = matches.get_str("address") else {
+        return Err(WordFault::Bad);
+    };
+    let Some(url) = matches.get_str("url") else {
+        return Err(WordFault::Bad);
+    };
+    let Some(question) = question_of(question) else {
+        return Err(WordFault::Bad);
+    };
+    if url.len() > LONGEST_URL {
+        return Err(WordFault::Bad);
+    }
+    let Ok(address) = String::from_str(alloc, address) else {
+        return Err(WordFault::NoMemory);
+    };
+    match String::from_str(alloc, url) {
+        Ok(url) => Ok(Command::Ask {
+            question,
+            address,
+            url,
+        }),
+        Err(_) => Err(WordFault::NoMemory),
     }
 }

@@ -2,6 +2,7 @@
 #![tactic(auto)]
 
 mod answer;
+mod ask;
 mod capture;
 mod command;
 mod file;
@@ -9,12 +10,15 @@ mod frame_line;
 mod input;
 mod run;
 mod script;
+mod serve;
 mod settings;
 mod show;
 mod stop;
 mod text;
 mod type_name;
 mod value;
+#[cfg(test)]
+mod vectors;
 
 use crate::run::{run, told};
 use crate::stop::Stop;

@@ -2,34 +2,39 @@
 
 ghost use Rattle.std.specs.Prelude.{◌≡◌, map, IfOk, IfErr, IfSome, OnOk};
 ghost use Rattle.std.specs.Io.KnownBytes.{Appends};
-ghost use Rattle.uadisc.specs.Run.{IsDone, IsStop, Runs};
+ghost use Rattle.uadisc.specs.Run.{Streams, IsDone, IsStop, Runs};
 ghost use Rattle.uadisc.specs.Stop.{status_of, stop_text, IsQuiet};
 
 use crate::answer::answer;
+use crate::ask::ask;
 use crate::command::{Command, WordsFault, command_of};
+use crate::serve::serve;
 use crate::show::show;
 use crate::stop::{Stop, print};
 use crate::value::value;
 use std::io;
 use std::io::{Read, Write};
-use std::rt::Files;
+use std::net::Net;
+use std::rt::{Clock, Files};
 
 #[cfg(test)]
-mod tests;
+pub(crate) mod tests;
 
 /// Runs the command that the words are, which are those after the program's name, and gives the
-/// exit status: 0 done, 1 settings or input refused, or a capture with a frame that is refused or cut, 2 words refused, 3 a failed read or write, 4
-/// want of memory. Help and the version are printed on `output`, with status 0. What stopped the
-/// command is told on `errors`, where a failed write is passed over.
+/// exit status: 0 done, 1 settings or input refused, a capture with a frame that is refused or cut, or a question that
+/// got no answer, 2 words refused, 3 a failed read or write, or a link that failed, 4 want of memory. Help and the
+/// version are printed on `output`, with status 0. What stopped the command is told on `errors`, where a failed write is
+/// passed over; `serve` tells there at which address it listens.
 pub fn run<R, I, O, E>(rt: &R, words: &[&str], input: &mut I, output: &mut O, errors: &mut E) -> u8
 where
-    R: Files + AllocGlobal,
+    R: Files + Net + Clock + AllocGlobal,
     I: Read,
     O: Write,
     E: Write,
-    ensures { Runs (map (λ w. w.now) words.entry.now) (I.remaining input.old) (O.contents output.old) (O.contents output.new) (E.contents errors.old) (E.contents errors.new) result }
+    ensures { let streams : Streams = record { left = I.remaining input.old; printed = O.contents output.old; printed' = O.contents output.new; told = E.contents errors.old; told' = E.contents errors.new } in
+        Runs (map (λ w. w.now) words.entry.now) streams result }
 {
-    match done(rt, words, input, output) {
+    match done(rt, words, input, output, errors) {
         Ok(status) => status,
         Err(stop) => told(&stop, errors),
     }
@@ -60,13 +65,20 @@ fn shown<O: Write>(text: &str, output: &mut O) -> Result<u8, Stop>
 }
 
 /// Does what the words ask for.
-fn done<R: Files + AllocGlobal, I: Read, O: Write>(
+fn done<R, I, O, E>(
     rt: &R,
     words: &[&str],
     input: &mut I,
     output: &mut O,
+    errors: &mut E,
 ) -> Result<u8, Stop>
-    ensures done { IfOk result (IsDone (map (λ w. w.now) words.entry.now) (I.remaining input.old) (O.contents output.old) (O.contents output.new)) }
+where
+    R: Files + Net + Clock + AllocGlobal,
+    I: Read,
+    O: Write,
+    E: Write,
+    ensures done { let streams : Streams = record { left = I.remaining input.old; printed = O.contents output.old; printed' = O.contents output.new; told = E.contents errors.old; told' = E.contents errors.new } in
+        IfOk result (IsDone (map (λ w. w.now) words.entry.now) streams) }
     ensures err { IfErr result (IsStop (map (λ w. w.now) words.entry.now) (I.remaining input.old)) }
     ensures quiet { IfErr result (λ stop. IsQuiet stop (O.contents output.old) (O.contents output.new)) }
 {
@@ -80,5 +92,15 @@ fn done<R: Files + AllocGlobal, I: Read, O: Write>(
         Command::Answer(source) => answer(rt, &source, input, output),
         Command::Value { kind, bytes } => value(rt.alloc(), kind, bytes.as_slice(), output),
         Command::Show(capture) => show(rt, &capture, input, output),
+        Command::Serve {
+            source,
+            address,
+            connections,
+        } => serve(rt, &source, address.as_str(), connections, output, errors),
+        Command::Ask {
+            question,
+            address,
+            url,
+        } => ask(rt, question, address.as_str(), url.as_str(), output, errors),
     }
 }

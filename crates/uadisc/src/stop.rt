@@ -23,6 +23,8 @@ pub enum Stop {
     Line(u64),
     /// A read or a write failed.
     File,
+    /// A link failed, or there is none.
+    Link,
     /// A growth was refused.
     NoMemory,
 }
@@ -35,7 +37,7 @@ impl Stop {
         match self {
             Stop::Settings(_) | Stop::Line(_) => 1,
             Stop::Words(_) => 2,
-            Stop::File => 3,
+            Stop::File | Stop::Link => 3,
             Stop::NoMemory => 4,
         }
     }
@@ -50,6 +52,7 @@ impl fmt::Display for Stop {
             Stop::Settings(fault) => writeln!(f, "{fault}"),
             Stop::Line(number) => writeln!(f, "line {number}"),
             Stop::File => writeln!(f, "file"),
+            Stop::Link => writeln!(f, "link"),
             Stop::NoMemory => writeln!(f, "memory"),
         }
     }

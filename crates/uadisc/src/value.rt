@@ -3,7 +3,7 @@
 ghost use Rattle.std.specs.Prelude.{◌≡◌, ◌≤◌, length, IfOk, IfErr, string_bytes, Ok, Err};
 ghost use Rattle.ua_value.specs.Format.{Reads, input_limit};
 ghost use Rattle.uadisc.specs.Printed.{value_lines, shape_of, two_lines, Prints, PrintsOnto, RefusesOnto};
-ghost use Rattle.uadisc.specs.Stop.{status_of, IsQuiet};
+ghost use Rattle.uadisc.specs.Stop.{IsFileStop, IsQuiet};
 ghost use Rattle.uadisc.specs.declared.type_name.TypeName.TheVariants.{Guid as guid_type, NodeId as node_id_type};
 
 use crate::stop::{Stop, print};
@@ -131,7 +131,7 @@ pub fn value<O: Write>(
     ensures done { IfOk result (λ status. status ≡ 0 → PrintsOnto (shape_of kind) bytes.now (O.contents output.old) (O.contents output.new)) }
     ensures refused { IfOk result (λ status. status ≡ 1 → RefusesOnto (shape_of kind) bytes.now (O.contents output.old) (O.contents output.new)) }
     ensures status { IfOk result (λ status. status ≤ 1) }
-    ensures err { IfErr result (λ stop. 3 ≤ status_of stop) }
+    ensures err { IfErr result IsFileStop }
     ensures quiet { IfErr result (λ stop. IsQuiet stop (O.contents output.old) (O.contents output.new)) }
 {
     if bytes.len() > MOST_BYTES {

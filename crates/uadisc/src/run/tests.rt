@@ -1,3 +1,4 @@
+mod links;
 mod show;
 
 use super::*;
@@ -28,14 +29,14 @@ const NOT_A_TYPE: &str = "455252461000000000007e80ffffffff\nend refused 807E0000
 
 /// A writer with room for so many bytes, which takes no memory and fails behind them.
 #[derive(Drop)]
-struct Page {
+pub(crate) struct Page {
     bytes: [u8; 4096],
     len: usize,
     room: usize,
 }
 
 impl Page {
-    fn new(room: usize) -> Page {
+    pub(crate) fn new(room: usize) -> Page {
         Page {
             bytes: [0; 4096],
             len: 0,
@@ -43,7 +44,7 @@ impl Page {
         }
     }
 
-    fn text(&self) -> &[u8] {
+    pub(crate) fn text(&self) -> &[u8] {
         &self.bytes[..self.len.min(4096)]
     }
 }
@@ -92,7 +93,7 @@ impl Read for Signs {
 }
 
 /// Runs the words on an input, and compares what is printed and the exit status.
-fn expect<R: Files + AllocGlobal + Abort>(
+fn expect<R: Files + Net + Clock + AllocGlobal + Abort>(
     rt: &R,
     words: &[&str],
     input: &str,
@@ -165,7 +166,7 @@ fn with_second_endpoint(alloc: Global) -> Result<String, AllocError> {
 }
 
 /// The text of a settings file is refused, before the input is judged.
-fn refuses<R: Files + AllocGlobal + Abort>(rt: &R, text: &[u8], errors: &str) {
+fn refuses<R: Files + Net + Clock + AllocGlobal + Abort>(rt: &R, text: &[u8], errors: &str) {
     fs::write(rt, "refused.toml", text).expect(rt, "a file is written");
     for input in [HELLO, "4g"] {
         expect(rt, &["answer", "refused.toml"], input, 1, "", errors);
@@ -423,7 +424,7 @@ fn reads_each_type_that_holds_others(rt: HostRuntime) {
 }
 
 /// Runs words that clap refuses, and looks for its text and for nothing else.
-fn expect_refusal<R: Files + AllocGlobal + Abort>(rt: &R, words: &[&str]) {
+fn expect_refusal<R: Files + Net + Clock + AllocGlobal + Abort>(rt: &R, words: &[&str]) {
     let mut input = b"4g".as_slice();
     let mut printed = Page::new(4096);
     let mut told = Page::new(4096);
@@ -445,7 +446,7 @@ fn has(bytes: &[u8], part: &str) -> bool {
 }
 
 /// Runs words that are refused, and looks for a part of the text.
-fn expect_reason<R: Files + AllocGlobal + Abort>(rt: &R, words: &[&str], part: &str) {
+fn expect_reason<R: Files + Net + Clock + AllocGlobal + Abort>(rt: &R, words: &[&str], part: &str) {
     let mut input = b"4g".as_slice();
     let mut printed = Page::new(4096);
     let mut told = Page::new(4096);
@@ -455,7 +456,7 @@ fn expect_reason<R: Files + AllocGlobal + Abort>(rt: &R, words: &[&str], part: &
 }
 
 /// Runs words that ask for a text, and looks for a part of it.
-fn expect_text<R: Files + AllocGlobal + Abort>(rt: &R, words: &[&str], part: &str) {
+fn expect_text<R: Files + Net + Clock + AllocGlobal + Abort>(rt: &R, words: &[&str], part: &str) {
     let mut input = b"4g".as_slice();
     let mut printed = Page::new(4096);
     let mut told = Page::new(4096);
@@ -509,6 +510,17 @@ fn shows_help_and_the_version(rt: HostRuntime) {
     expect_text(&rt, &["help", "value"], "Usage: uadisc value <TYPE> <HEX>");
     expect_text(&rt, &["value", "-h"], "NodeId");
     expect_text(&rt, &["show", "--help"], "Usage: uadisc show <FILE>");
+    expect_text(
+        &rt,
+        &["serve", "--help"],
+        "Usage: uadisc serve --connections <N> <SETTINGS> <ADDR>",
+    );
+    expect_text(
+        &rt,
+        &["help", "ask"],
+        "Usage: uadisc ask <WHAT> <ADDR> <URL>",
+    );
+    expect_text(&rt, &["ask", "-h"], "find, endpoints");
 }
 
 #[test]
@@ -547,7 +559,7 @@ fn tells_failed_reads_and_writes(rt: HostRuntime) {
 }
 
 /// Runs words whose output has not enough room.
-fn expect_failed_write<R: Files + AllocGlobal + Abort>(rt: &R, words: &[&str], room: usize) {
+fn expect_failed_write<R: Files + Net + Clock + AllocGlobal + Abort>(rt: &R, words: &[&str], room: usize) {
     let mut input = HELLO.as_bytes();
     let mut printed = Page::new(room);
     let mut told = Page::new(4096);
@@ -557,7 +569,7 @@ fn expect_failed_write<R: Files + AllocGlobal + Abort>(rt: &R, words: &[&str], r
 }
 
 /// Runs a command that fails with the status, where the fault can't be told whole.
-fn expect_untold<R: Files + AllocGlobal + Abort>(rt: &R, words: &[&str], status: u8) {
+fn expect_untold<R: Files + Net + Clock + AllocGlobal + Abort>(rt: &R, words: &[&str], status: u8) {
     let mut input = b"4g".as_slice();
     let mut printed = Page::new(0);
     let mut told = Page::new(3);
@@ -566,7 +578,7 @@ fn expect_untold<R: Files + AllocGlobal + Abort>(rt: &R, words: &[&str], status:
 }
 
 /// Runs the words to their full answer, or to want of memory with nothing printed.
-fn expect_or_no_memory<R: Files + AllocGlobal + Abort>(
+fn expect_or_no_memory<R: Files + Net + Clock + AllocGlobal + Abort>(
     rt: &R,
     words: &[&str],
     input: &str,

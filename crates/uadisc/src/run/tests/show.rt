@@ -4,8 +4,9 @@ use super::{Page, expect, expect_failed_write};
 use crate::run::run;
 use std::alloc::{AllocError, Global};
 use std::fs;
+use std::net::Net;
 use std::process::Abort;
-use std::rt::Files;
+use std::rt::{Clock, Files};
 use std::test::Fail;
 
 /// What a client sends that asks for servers: a Hello, an open request, FindServers and a close.
@@ -40,7 +41,7 @@ fn capture_lines(alloc: Global, last: &str) -> Result<String, AllocError> {
 }
 
 /// Shows the bytes from standard input and from a file.
-fn shows<R: Files + AllocGlobal + Abort>(rt: &R, bytes: &[u8], status: u8, output: &str) {
+fn shows<R: Files + Net + Clock + AllocGlobal + Abort>(rt: &R, bytes: &[u8], status: u8, output: &str) {
     fs::write(rt, "shown.bin", bytes).expect(rt, "a file is written");
     for file in ["-", "shown.bin"] {
         let mut input = bytes;
