@@ -1,6 +1,6 @@
 //! Frames that are written.
 
-ghost use Rattle.std.specs.Prelude.{◌≡◌, ◌+◌, ◌<◌, ◌≤◌, ◌^◌, ◌++◌, length, take, is_ok, if◌then◌else◌, OnOk, OnErr};
+ghost use Rattle.std.specs.Prelude.{◌≡◌, ◌+◌, ◌<◌, ◌≤◌, ◌^◌, ◌++◌, ◌∷◌, [], length, take, is_ok, if◌then◌else◌, OnOk, OnErr};
 ghost use Rattle.std.specs.Int.{w32, to_le_bytes};
 ghost use Rattle.ua_frame.specs.Layout.{header};
 ghost use Rattle.ua_chunk.specs.Numbers.{number_after};
@@ -59,6 +59,21 @@ fn put_number(number: u32, out: &mut Vec<u8>) -> Result<(), NoMemory>
     out.extend_from_slice(&number.to_le_bytes())
 }
 
+/// What stands between the type of a chunk's frame and its body: flag, size and numbers.
+fn numbers(flag: u8, head: &Head, number: u32, len: u32) -> [u8; 21]
+    requires { 24 + len < 2 ^ 32 }
+    ensures { result ≡ (flag ∷ []) ++ to_le_bytes w32 (8 + (16 + len)) ++ to_le_bytes w32 head.now.channel ++ to_le_bytes w32 head.now.token ++ to_le_bytes w32 number ++ to_le_bytes w32 head.now.request_id }
+{
+    let [l0, l1, l2, l3] = (HEADER + NUMBERS + len).to_le_bytes();
+    let [c0, c1, c2, c3] = head.channel.to_le_bytes();
+    let [t0, t1, t2, t3] = head.token.to_le_bytes();
+    let [n0, n1, n2, n3] = number.to_le_bytes();
+    let [r0, r1, r2, r3] = head.request_id.to_le_bytes();
+    [
+        flag, l0, l1, l2, l3, c0, c1, c2, c3, t0, t1, t2, t3, n0, n1, n2, n3, r0, r1, r2, r3,
+    ]
+}
+
 /// Appends the frame of one chunk, or where memory runs out a beginning of it.
 fn put_chunk(
     kind: Kind,
@@ -72,11 +87,10 @@ fn put_chunk(
     ensures ok { OnOk result (out.new.items ≡ out.old.items ++ chunk_frame kind flag head.now.channel head.now.token number head.now.request_id body.now) }
     ensures err { OnErr result (take (length out.old.items) out.new.items ≡ out.old.items) }
 {
-    put_header(kind, flag, NUMBERS + body.len() as u32, out)?;
-    put_number(head.channel, out)?;
-    put_number(head.token, out)?;
-    put_number(number, out)?;
-    put_number(head.request_id, out)?;
+    let len = body.len() as u32;
+    out.reserve((HEADER + NUMBERS + len) as usize)?;
+    out.extend_from_slice(kind.name())?;
+    out.extend_from_slice(&numbers(flag, head, number, len))?;
     out.extend_from_slice(body)
 }
 
