@@ -94,6 +94,7 @@ impl Wire for StatusCode {
         Ok(*self)
     }
 
+    #[inline(always)]
     fn read_front(alloc: Global, input: &[u8]) -> Result<(StatusCode, &[u8]), ReadFault> {
         let (code, rest) = u32::read_front(alloc, input)?;
         Ok((StatusCode(code), rest))
