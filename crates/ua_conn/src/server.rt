@@ -125,8 +125,8 @@ impl<'a> Server<'a> {
     /// # Errors
     ///
     /// `Ended` exactly where the server took no more already; nothing has changed then. Else `NoMemory` where a growth
-    /// was refused: `out` has then gained whole frames that begin what the piece is answered, and the server takes no
-    /// more. A frame that is refused is no error of this call.
+    /// was refused: `out` has then gained whole frames that begin what the piece is answered, the requests of the piece
+    /// are dropped, and the server takes no more. A frame that is refused is no error of this call.
     pub fn feed(&mut self, now: i64, piece: &[u8], out: &mut Vec<u8>) -> Result<Fed, FeedFault>
         ensures fed { IfOk result (λ fed. FeedsAll self.old (record { moment = counted now; bytes = piece.now }) out.old.items out.new.items fed.requests.items fed.end self.new) }
 
