@@ -33,6 +33,7 @@ pub struct Head {
 }
 
 /// How many chunks hold a message of `len` bytes with at most `part_limit` bytes in each. An empty message has one.
+/// OPC 10000-6, 6.7.2.
 pub fn chunk_count(len: u64, part_limit: u32) -> u64
     requires { 1 ≤ part_limit }
     ensures { result ≡ part_count len part_limit }
@@ -167,11 +168,13 @@ fn put_message(
     write_chunk(Kind::Message, b'F', head, sequence, rest, out)
 }
 
-/// Appends the MSG frames of a message: parts of `part_limit` bytes, the last of 1 to `part_limit` bytes, and one
-/// empty part for an empty `body`. Each is flagged `C` but the last, which is `F`, and each has the next sequence
-/// number. OPC 10000-6, 6.7.2.2 to 6.7.2.4.
+/// Appends the MSG frames of a message: parts of `part_limit` bytes, the last of 1 to `part_limit` bytes, and one empty
+/// part for an empty `body`. Each is flagged `C` but the last, which is `F`, and each has the next sequence number.
+/// OPC 10000-6, 6.7.2.2 to 6.7.2.4.
 ///
-/// After `NoMemory`, `out` and `sequence` are unchanged.
+/// # Errors
+///
+/// `NoMemory` where the growth of `out` is refused; `out` and `sequence` are then unchanged.
 pub fn write_chunks(
     body: &[u8],
     head: &Head,
@@ -198,10 +201,12 @@ pub fn write_chunks(
     }
 }
 
-/// Appends the OPN frame with the body of an open request or response, by the policy None, without certificate and
-/// thumbprint. OPC 10000-6, 6.7.2.
+/// Appends the OPN frame with the body of an open request or response, under the security policy None, without
+/// certificate and thumbprint. It has the next sequence number. OPC 10000-6, 6.7.2.
 ///
-/// After `NoMemory`, `out` and `sequence` are unchanged.
+/// # Errors
+///
+/// `NoMemory` where the growth of `out` is refused; `out` and `sequence` are then unchanged.
 pub fn write_open(
     channel: u32,
     request_id: u32,
@@ -226,9 +231,11 @@ pub fn write_open(
     }
 }
 
-/// Appends the CLO frame with the body of a close request. OPC 10000-6, 6.7.2.
+/// Appends the CLO frame with the body of a close request. It has the next sequence number. OPC 10000-6, 6.7.2.
 ///
-/// After `NoMemory`, `out` and `sequence` are unchanged.
+/// # Errors
+///
+/// `NoMemory` where the growth of `out` is refused; `out` and `sequence` are then unchanged.
 pub fn write_close(
     channel: u32,
     token: u32,
@@ -249,10 +256,12 @@ pub fn write_close(
     write_chunk(Kind::Close, b'F', &head, sequence, body, out)
 }
 
-/// Appends the MSG frame by which a sender gives a message up, with the reason as a status and no text.
-/// OPC 10000-6, 6.7.3.
+/// Appends the MSG frame by which a sender gives a message up, with the reason as a status and no text. It has the next
+/// sequence number. OPC 10000-6, 6.7.3.
 ///
-/// After `NoMemory`, `out` and `sequence` are unchanged.
+/// # Errors
+///
+/// `NoMemory` where the growth of `out` is refused; `out` and `sequence` are then unchanged.
 #[tactic(auto, unfolding(crate::specs::Layout::abort_body, ua_value::specs::Number::unsigned, ua_value::specs::Text::bytes_of))]
 pub fn write_abort(
     channel: u32,

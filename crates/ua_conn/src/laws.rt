@@ -65,11 +65,11 @@ pub fn faithful()
     ensures { Faithful }
 {}
 
-/// The law of both ends, its first part. For every setup and every schedule of requests that are values: what the server
-/// is handed is a beginning of what the client asked, in order; and each answer that the client accepted stands in the
-/// place of its request and under its id, and is the discovery answer at the moment at which the server had the request
-/// whole, or the abort in its place where that answer passes the limits that the client's Hello names. Tokens may die
-/// on the way, and not all need be delivered. OPC 10000-4, 5.5; OPC 10000-6, 6.7 and 7.1.
+/// The law of both ends, its first part. For every setup and every schedule of requests that are values: what the
+/// server is handed is a beginning of what the client asked, in order; and each answer that the client accepted stands
+/// in the place of its request and under its id, and is the discovery answer at the moment at which the server had the
+/// request whole, or the abort in its place where that answer passes the limits that the client's Hello names. Tokens
+/// may die on the way, and not all need be delivered. OPC 10000-4, 5.5; OPC 10000-6, 6.7 and 7.1.
 pub fn handed()
     ensures { HandedAndAccepted }
 {}

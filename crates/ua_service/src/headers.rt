@@ -239,7 +239,8 @@ impl Wire for ResponseHeader {
     ghost laws = { lawful_response_header };
 }
 
-/// The header of a request (OPC 10000-4, 7.33): the moment, the client's number for the request, and nothing else. It takes no memory.
+/// The header of a request (OPC 10000-4, 7.33): the moment, the client's number for the request, and nothing else. It
+/// takes no memory.
 pub fn request_header(now: DateTime, handle: u32) -> RequestHeader
     ensures { result ≡ request_header_at now.0 handle }
 {

@@ -11,7 +11,8 @@ use crate::fault::{NoMemory, ReadFault};
 use crate::wire::{Sink, Wire};
 use std::alloc::Global;
 
-/// The UInt32 at the front, or `None` where there are fewer than four bytes. What follows it is not looked at.
+/// The UInt32 at the front (OPC 10000-6, 5.2.2.2), or `None` where there are fewer than four bytes. What follows it is
+/// not looked at.
 pub fn peek_u32(input: &[u8]) -> Option<u32>
     ensures spelled { Peeks (unsigned w32) input.now (option_map (λ n. (n, 4)) result) }
     ensures front { option_map (λ n. (n, drop 4 input.now)) result ≡ (unsigned w32).grammar.front input.now }
@@ -22,7 +23,7 @@ pub fn peek_u32(input: &[u8]) -> Option<u32>
     }
 }
 
-/// The UInt32 at the front, and what follows it. `None` where there are less than four bytes.
+/// The UInt32 at the front (OPC 10000-6, 5.2.2.2), and what follows it. `None` where there are fewer than four bytes.
 #[inline(always)]
 pub fn front_u32(input: &[u8]) -> Option<(u32, &[u8])>
     ensures front { option_map (λ p. (p.0, p.1.now)) result ≡ (unsigned w32).grammar.front input.now }
