@@ -55,6 +55,10 @@ impl Model for ServerChannel {
       channel = record { id = a.id; tokens = tokens_of a.tokens; last = a.last; used = a.used };
       moment = a.moment;
     } };
+
+    ghost use Rattle.ua_channel.specs.Held.{IsAll};
+
+    ghost invariant = { IsAll };
 }
 
 impl ServerChannel {

@@ -43,12 +43,13 @@ pub struct Assembly {
 impl Model for Assembly {
     ghost use Rattle.std.specs.Prelude.{vec_capacity};
     ghost use Rattle.ua_chunk.specs.Gathered.{Gathered, half_by, IsGathered};
+    ghost use Rattle.ua_chunk.specs.Held.{IsAll};
 
     ghost Value = { Gathered };
 
     ghost view = { λ a. record { max_message = a.max_message; max_chunks = a.max_chunks; half = half_by a.id a.parts a.body.items; whole = a.whole } };
 
-    ghost invariant = { λ a. IsGathered a.max_message a.max_chunks a.id a.parts a.body.items (vec_capacity a.body) };
+    ghost invariant = { λ a. IsGathered a.max_message a.max_chunks a.id a.parts a.body.items (vec_capacity a.body) (IsAll a) };
 }
 
 impl Assembly {

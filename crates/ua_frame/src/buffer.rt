@@ -24,12 +24,13 @@ pub struct FrameBuf {
 impl Model for FrameBuf {
     ghost use Rattle.std.specs.Prelude.{◌≤◌, drop, length, vec_capacity};
     ghost use Rattle.ua_frame.specs.Buffer.{Buffered, IsRoom};
+    ghost use Rattle.ua_frame.specs.Held.{IsAll};
 
     ghost Value = { Buffered };
 
     ghost view = { λ a. record { bytes = drop a.start a.bytes.items; capacity = a.capacity } };
 
-    ghost invariant = { λ a. IsRoom a.start (length a.bytes.items) a.capacity (vec_capacity a.bytes) };
+    ghost invariant = { λ a. IsRoom a.start (length a.bytes.items) a.capacity (vec_capacity a.bytes) (IsAll a) };
 }
 
 impl FrameBuf {

@@ -14,7 +14,7 @@ use std::alloc::Global;
 use ua_value::{NoMemory, NodeId, Parts, ReadFault, Sink, Wire, read_whole};
 
 /// What a client asks for over an open channel.
-#[derive(Drop)]
+#[derive(Debug, Drop)]
 pub enum Request {
     /// For the servers that are known (OPC 10000-4, 5.5.2).
     FindServers(FindServersRequest),

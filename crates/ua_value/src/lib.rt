@@ -46,6 +46,7 @@ mod node;
 mod number;
 mod status;
 mod text;
+mod texts;
 mod wire;
 mod xml;
 
@@ -64,5 +65,6 @@ pub use node::{Identifier, NodeId};
 pub use number::{front_u32, peek_u32};
 pub use status::StatusCode;
 pub use text::{UaString, peek_string, string_front};
+pub use texts::MOST_TEXTS;
 pub use wire::{Sink, Wire};
 pub use xml::XmlElement;
