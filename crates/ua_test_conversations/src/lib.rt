@@ -25,6 +25,14 @@ mod conversations;
 #[cfg(test)]
 mod embedding;
 #[cfg(test)]
+mod hostile;
+#[cfg(test)]
+mod hostile_answers;
+#[cfg(test)]
+mod hostile_openings;
+#[cfg(test)]
+mod hostile_servers;
+#[cfg(test)]
 mod keys;
 #[cfg(test)]
 mod limits;
