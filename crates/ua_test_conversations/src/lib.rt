@@ -45,9 +45,15 @@ mod memory;
 #[cfg(test)]
 mod refusals;
 #[cfg(test)]
+mod rounds;
+#[cfg(test)]
 mod rows;
 #[cfg(test)]
 mod settings;
+#[cfg(test)]
+mod stories;
+#[cfg(test)]
+mod telling;
 #[cfg(test)]
 mod tokens;
 #[cfg(test)]
