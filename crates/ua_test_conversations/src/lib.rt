@@ -49,6 +49,8 @@ mod rounds;
 #[cfg(test)]
 mod rows;
 #[cfg(test)]
+mod schedules;
+#[cfg(test)]
 mod settings;
 #[cfg(test)]
 mod stories;
