@@ -1,4 +1,5 @@
 mod show;
+mod streams;
 
 use super::*;
 use std::alloc::{AllocError, Global};
