@@ -3,3 +3,4 @@ pub mod Newest
 pub mod Channel
 pub mod Admission
 pub mod ClientChannel
+pub mod Held

@@ -55,10 +55,14 @@ impl Model for ServerChannel {
       channel = record { id = a.id; tokens = tokens_of a.tokens; last = a.last; used = a.used };
       moment = a.moment;
     } };
+
+    ghost use Rattle.ua_channel.specs.Held.{IsAll};
+
+    ghost invariant = { IsAll };
 }
 
 impl ServerChannel {
-    /// A channel with the id that the server gives it, before its first frame.
+    /// A channel with the id that the server gives it, before its first frame. OPC 10000-4, 5.6.2.
     pub fn start(id: u32) -> ServerChannel
         ensures { result ≡ record { channel = new_channel id; moment = 0 } }
     {
@@ -71,12 +75,14 @@ impl ServerChannel {
         }
     }
 
-    /// Admits an OPN frame, whose sequence number then counts as the last one.
+    /// Admits an OPN frame, whose sequence number then counts as the last one. It takes no memory. OPC 10000-6, 6.7.2.3
+    /// and 6.7.2.4.
     ///
-    /// `Err` is the status of the first thing that is wrong: the channel id, which is 0 in the first frame
-    /// (`BAD_TCP_SECURE_CHANNEL_UNKNOWN`), then a policy other than None (`BAD_SECURITY_POLICY_REJECTED`), then the
-    /// sequence number (`BAD_SEQUENCE_NUMBER_INVALID`). A refused frame changes nothing. The call takes no memory.
-    /// OPC 10000-6, 6.7.2.3 and 6.7.2.4.
+    /// # Errors
+    ///
+    /// The status of the first of these that holds: `BAD_TCP_SECURE_CHANNEL_UNKNOWN` where the frame names another
+    /// channel, which in the first frame is any but 0; `BAD_SECURITY_POLICY_REJECTED` where its policy is not None;
+    /// `BAD_SEQUENCE_NUMBER_INVALID` where its sequence number does not follow the last one. Nothing has changed then.
     pub fn admit_open(&mut self, chunk: &OpenChunk) -> Result<(), u32>
         ensures refused { IfErr result (λ status.
             first_row (admit_open_rows self.old.channel chunk.now) ≡ Some status) }
@@ -91,13 +97,16 @@ impl ServerChannel {
         Ok(())
     }
 
-    /// Issues the next token to the open request of an admitted frame, at the moment `now` in ticks of 100
-    /// nanoseconds. A moment before 0, or before that of an earlier call, counts as that.
+    /// Issues the next token to the open request of an admitted frame, at the moment `now`, in ticks of 100 ns since
+    /// 1601-01-01 UTC. A moment before 0, or before that of an earlier call, counts as that. It takes no memory.
+    /// OPC 10000-4, 5.6.2.
     ///
-    /// `Err` is the status of the first thing that is wrong: the request type, which is to issue at first and to renew
-    /// later (`BAD_REQUEST_TYPE_INVALID`), then a security mode other than None (`BAD_SECURITY_MODE_REJECTED`), then
-    /// that no token id is left (`BAD_TCP_NOT_ENOUGH_RESOURCES`). A refused request changes nothing, and leaves no
-    /// moment behind. The call takes no memory. OPC 10000-4, 5.6.2.
+    /// # Errors
+    ///
+    /// The status of the first of these that holds: `BAD_REQUEST_TYPE_INVALID` where the request does not ask to issue
+    /// the first token, or to renew a later one; `BAD_SECURITY_MODE_REJECTED` where its security mode is not None;
+    /// `BAD_TCP_NOT_ENOUGH_RESOURCES` where no token id is left. Nothing has changed then, and no moment is left
+    /// behind.
     pub fn issue(&mut self, request: &OpenRequest, now: i64) -> Result<Issued, u32>
         ensures refused { IfErr result (λ status.
             first_row (issue_rows self.old.channel request.now) ≡ Some status) }
@@ -131,14 +140,16 @@ impl ServerChannel {
         })
     }
 
-    /// Admits a MSG or CLO frame whose last byte came at the moment `now`, in ticks of 100 nanoseconds. Its sequence
-    /// number then counts as the last one, and its token as used. A moment before 0, or before that of an earlier
-    /// call, counts as that.
+    /// Admits a MSG or CLO frame whose last byte came at the moment `now`, in ticks of 100 ns since 1601-01-01 UTC. Its
+    /// sequence number then counts as the last one, and its token as used. A moment before 0, or before that of an
+    /// earlier call, counts as that. It takes no memory. OPC 10000-6, 6.7.2.3 and 6.7.2.4; OPC 10000-4, 5.6.2.1.
     ///
-    /// `Err` is the status of the first thing that is wrong: the channel id (`BAD_TCP_SECURE_CHANNEL_UNKNOWN`), then
-    /// a token that is not one of the two newest or no longer alive (`BAD_SECURE_CHANNEL_TOKEN_UNKNOWN`), then the
-    /// sequence number (`BAD_SEQUENCE_NUMBER_INVALID`). A refused frame changes nothing, and leaves no moment behind.
-    /// The call takes no memory. OPC 10000-6, 6.7.2.3 and 6.7.2.4; OPC 10000-4, 5.6.2.1.
+    /// # Errors
+    ///
+    /// The status of the first of these that holds: `BAD_TCP_SECURE_CHANNEL_UNKNOWN` where the frame names another
+    /// channel; `BAD_SECURE_CHANNEL_TOKEN_UNKNOWN` where its token is not one of the two newest, or no longer alive;
+    /// `BAD_SEQUENCE_NUMBER_INVALID` where its sequence number does not follow the last one. Nothing has changed then,
+    /// and no moment is left behind.
     pub fn admit(&mut self, chunk: &Chunk, now: i64) -> Result<(), u32>
         ensures refused { IfErr result (λ status.
             first_row (admit_rows self.old.channel chunk.now.chunk (max self.old.moment (moment_of now))) ≡ Some status) }

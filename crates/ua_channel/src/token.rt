@@ -23,8 +23,8 @@ const SHORTEST: u32 = 10000;
 const LONGEST: u32 = 3600000;
 
 impl Token {
-    /// Whether chunks with this token are still admitted at the moment `now`, in ticks: for its lifetime and a
-    /// quarter of it more.
+    /// Whether chunks with this token are still admitted at the moment `now`, in ticks of 100 ns since 1601-01-01 UTC:
+    /// for its lifetime and a quarter of it more. OPC 10000-4, 5.6.2.1.
     pub fn is_alive(&self, now: u64) -> bool
         ensures { result ≡ is_alive self.now now }
     {
@@ -32,7 +32,8 @@ impl Token {
         now.saturating_sub(self.issued) < lifetime + lifetime / 4
     }
 
-    /// Whether the token is to be renewed at the moment `now`, in ticks: three quarters of its lifetime are over.
+    /// Whether the token is to be renewed at the moment `now`, in ticks of 100 ns since 1601-01-01 UTC: three quarters
+    /// of its lifetime are over. OPC 10000-6, 6.7.4.
     pub fn is_due(&self, now: u64) -> bool
         ensures { result ≡ is_due self.now now }
     {

@@ -1,9 +1,9 @@
 -- The bytes of a frame, put one after another.
-use Rattle.std.proofs.Common.{◌≡◌, ℕ, ◌+◌, List, ◌++◌, length, Result, Ok, Err, ap, ◌∙◌, arith, append_assoc}
+use Rattle.std.proofs.Common.{◌≡◌, ℕ, ◌+◌, List, [], ◌∷◌, ◌++◌, length, Result, Ok, Err, ap, ◌∙◌, arith, append_assoc}
 use Rattle.std.specs.Prelude.{if◌then◌else◌, is_ok, OnOk}
 use Rattle.std.specs.Int.{w32, to_le_bytes}
 use Rattle.ua_value.specs.Number.{unsigned}
-use Rattle.ua_frame.specs.Layout.{header}
+use Rattle.ua_frame.specs.Layout.{header, name_of}
 use Rattle.ua_frame.specs.declared.kind.Kind.{Kind}
 use Rattle.ua_frame.specs.declared.kind.Kind.TheVariants.{Open}
 use Rattle.ua_value.specs.Text.{bytes_of, null}
@@ -14,8 +14,9 @@ pub ok_is : {T E : Type 0} (r : Result T E) (new old more target : List ℕ) →
 ok_is (Ok x) new old more target e h = e ∙ h
 ok_is (Err e) new old more target f h = tt
 
-behind : (o h a b c d body : List ℕ) → (((((o ++ h) ++ a) ++ b) ++ c) ++ d) ++ body ≡ o ++ (h ++ ((a ++ (b ++ (c ++ d))) ++ body))
-behind o h a b c d body = simp append_assoc
+behind : (o n f s a b c d body : List ℕ)
+    → ((o ++ n) ++ (f ++ s ++ a ++ b ++ c ++ d)) ++ body ≡ o ++ ((n ++ f ++ s) ++ ((a ++ (b ++ (c ++ d))) ++ body))
+behind o n f s a b c d body = simp append_assoc
 
 abbrev le : ℕ → List ℕ
 le n = to_le_bytes w32 n
@@ -29,18 +30,16 @@ chunk_spelled kind flag channel token number id body =
     let len : 16 + length body ≡ length fields = omega arith in
     ap (λ (n : ℕ). header kind flag n ++ fields) len
 
-pub chunk_written : (kind : Kind) (flag channel token number id : ℕ) (body o p q r s t : List ℕ)
-    → p ≡ o ++ header kind flag (16 + length body) → q ≡ p ++ to_le_bytes w32 channel → r ≡ q ++ to_le_bytes w32 token → s ≡ r ++ to_le_bytes w32 number → t ≡ s ++ to_le_bytes w32 id
-    → t ++ body ≡ o ++ chunk_frame kind flag channel token number id body
-chunk_written kind flag channel token number id body o p q r s t e1 e2 e3 e4 e5 =
-    let h = header kind flag (16 + length body) in
-    let two : q ≡ (o ++ h) ++ le channel = e2 ∙ ap (λ (l : List ℕ). l ++ le channel) e1 in
-    let three : r ≡ ((o ++ h) ++ le channel) ++ le token = e3 ∙ ap (λ (l : List ℕ). l ++ le token) two in
-    let four : s ≡ (((o ++ h) ++ le channel) ++ le token) ++ le number = e4 ∙ ap (λ (l : List ℕ). l ++ le number) three in
-    let five : t ≡ ((((o ++ h) ++ le channel) ++ le token) ++ le number) ++ le id = e5 ∙ ap (λ (l : List ℕ). l ++ le id) four in
-    ap (λ (l : List ℕ). l ++ body) five
-    ∙ behind o h (le channel) (le token) (le number) (le id) body
-    ∙ ap (λ (l : List ℕ). o ++ l) (chunk_spelled kind flag channel token number id body)
+pub chunk_written : (kind : Kind) (flag channel token number id : ℕ) (name numbers body o p q r : List ℕ) → name ≡ name_of kind
+    → numbers ≡ (flag ∷ []) ++ le (8 + (16 + length body)) ++ le channel ++ le token ++ le number ++ le id
+    → p ≡ o → q ≡ p ++ name → r ≡ q ++ numbers → r ++ body ≡ o ++ chunk_frame kind flag channel token number id body
+chunk_written kind flag channel token number id name numbers body o p q r is all e1 e2 e3 =
+    let l = le (8 + (16 + length body)) in
+    let two : q ≡ o ++ name_of kind = e2 ∙ ap (λ (b : List ℕ). b ++ name) e1 ∙ ap (λ (b : List ℕ). o ++ b) is in
+    let three : r ≡ (o ++ name_of kind) ++ numbers = e3 ∙ ap (λ (b : List ℕ). b ++ numbers) two in
+    ap (λ (b : List ℕ). b ++ body) (three ∙ ap (λ (b : List ℕ). (o ++ name_of kind) ++ b) all)
+    ∙ behind o (name_of kind) (flag ∷ []) l (le channel) (le token) (le number) (le id) body
+    ∙ ap (λ (b : List ℕ). o ++ b) (chunk_spelled kind flag channel token number id body)
 
 -- ---- OPN
 

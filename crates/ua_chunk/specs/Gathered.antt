@@ -18,9 +18,10 @@ abbrev pub IsKept : Option ℕ → ℕ → List ℕ → Type 0
 IsKept None parts body = (parts ≡ 0) × (body ≡ [])
 IsKept (Some id) parts body = Unit {0}
 
--- within the limits, with room for the longest message
-pub record IsGathered (max_message max_chunks : ℕ) (id : Option ℕ) (parts : ℕ) (body : List ℕ) (reserved : ℕ) : Type 0 where
+-- within the limits, with room for the longest message, and with no other part, as `alone` says
+pub record IsGathered (max_message max_chunks : ℕ) (id : Option ℕ) (parts : ℕ) (body : List ℕ) (reserved : ℕ) (alone : Type 0) : Type 0 where
   pub room : max_message ≤ reserved
   pub bytes : length body ≤ max_message
   pub count : parts ≤ max_chunks
   pub kept : IsKept id parts body
+  pub all : alone

@@ -43,20 +43,23 @@ pub struct Assembly {
 impl Model for Assembly {
     ghost use Rattle.std.specs.Prelude.{vec_capacity};
     ghost use Rattle.ua_chunk.specs.Gathered.{Gathered, half_by, IsGathered};
+    ghost use Rattle.ua_chunk.specs.Held.{IsAll};
 
     ghost Value = { Gathered };
 
     ghost view = { λ a. record { max_message = a.max_message; max_chunks = a.max_chunks; half = half_by a.id a.parts a.body.items; whole = a.whole } };
 
-    ghost invariant = { λ a. IsGathered a.max_message a.max_chunks a.id a.parts a.body.items (vec_capacity a.body) };
+    ghost invariant = { λ a. IsGathered a.max_message a.max_chunks a.id a.parts a.body.items (vec_capacity a.body) (IsAll a) };
 }
 
 impl Assembly {
-    /// An assembly without parts, for messages of at most `max_message` bytes in at most `max_chunks` parts. These
-    /// are the limits of the end that receives; a 0 is no special one. OPC 10000-6, 7.1.2.3 and 7.1.2.4.
+    /// An assembly without parts, for messages of at most `max_message` bytes in at most `max_chunks` parts. These are
+    /// the limits of the end that receives, and 0 does not mean "no limit" here. Room for the longest message is
+    /// reserved here and never again, and is not filled. OPC 10000-6, 7.1.2.3 and 7.1.2.4.
     ///
-    /// Room for the longest message is reserved here and never again, and is not filled. `NoMemory` comes only where
-    /// the reservation was refused.
+    /// # Errors
+    ///
+    /// `NoMemory` where the room is refused.
     pub fn with_capacity(
         alloc: Global,
         max_message: u32,
@@ -76,15 +79,16 @@ impl Assembly {
     }
 
     /// Adds the part that a MSG chunk carries: `C` puts it behind the others, `F` makes the message whole, and `A`
-    /// drops them, with the status in its body. An abort is not counted, and may come first. OPC 10000-6, 6.7.2.2 and
-    /// 6.7.3.
+    /// drops them, with the status in its body. An abort is not counted, and may come first. It takes no memory.
+    /// OPC 10000-6, 6.7.2.2 and 6.7.3.
     ///
     /// After `Whole` the message is there in `body`, until `clear`, which goes before the next `add`.
     ///
-    /// `Err` is the status of the first that holds: `BAD_TCP_MESSAGE_TYPE_INVALID`, where the chunk has another
-    /// request id than the parts before it; `BAD_TCP_MESSAGE_TOO_LARGE`, where a `C` or `F` makes more parts or more
-    /// bytes than the limits; `BAD_DECODING_ERROR`, where an `A` has not the body of an abort. All is as before then.
-    /// It takes no memory.
+    /// # Errors
+    ///
+    /// The status of the first of these that holds: `BAD_TCP_MESSAGE_TYPE_INVALID` where the chunk has another request
+    /// id than the parts before it; `BAD_TCP_MESSAGE_TOO_LARGE` where a `C` or `F` makes more parts or more bytes than
+    /// the limits; `BAD_DECODING_ERROR` where an `A` has not the body of an abort. The parts are as before then.
     pub fn add(&mut self, chunk: &Chunk) -> Result<Added, u32>
         requires message { chunk.now.kind ≡ Message }
         requires cleared { self.old.whole ≡ false }

@@ -99,11 +99,13 @@ fn chunk_at(kind: Kind, flag: u8, fields: &[u8]) -> Option<Chunk<'_>>
     })
 }
 
-/// What a MSG or CLO frame carries: channel id, token id, sequence number, request id and body, with the type
-/// and the flag of the frame. OPC 10000-6, 6.7.2.2 to 6.7.2.4.
+/// What a MSG or CLO frame carries: channel id, token id, sequence number, request id and body, with the type and the
+/// flag of the frame. It takes no memory. OPC 10000-6, 6.7.2.2 to 6.7.2.4.
 ///
-/// `Err` is `BAD_DECODING_ERROR`, where the frame is neither a MSG nor a CLO or has less than the 16 bytes of
-/// these numbers. The call takes no memory.
+/// # Errors
+///
+/// `BAD_DECODING_ERROR` exactly where the frame is neither a MSG nor a CLO, or has fewer than the 16 bytes of these
+/// numbers.
 pub fn message_chunk<'a>(frame: &Frame<'a>) -> Result<Chunk<'a>, u32>
     ensures found { IfOk result (λ c. chunk_in frame.now ≡ Some c) }
     ensures refused { IfErr result (λ status. (chunk_in frame.now ≡ None) × (status ≡ 0x80070000)) }

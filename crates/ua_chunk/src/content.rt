@@ -57,11 +57,14 @@ impl From<ReadFault> for ContentFault {
     }
 }
 
-/// What a frame carries: all of its fields, by the layout of its type. OPC 10000-6, 6.7.2 and 7.1.2.
+/// What a frame carries: all of its fields, by the layout of its type. The url of a HEL and the reason of an ERR are
+/// copied; the content of any other frame takes no memory, whatever its size. OPC 10000-6, 6.7.2 and 7.1.2.
 ///
-/// `Refused` has `BAD_TCP_MESSAGE_TYPE_INVALID` for a frame of a type that no end takes, which is RHE, and
-/// `BAD_DECODING_ERROR` where the fields have not the layout of the frame's type. `NoMemory` comes only for the url of
-/// a HEL and the reason of an ERR, which are copied: an OPN, MSG or CLO takes no memory, whatever its size.
+/// # Errors
+///
+/// `Refused` with `BAD_TCP_MESSAGE_TYPE_INVALID` where the frame is of a type that no end takes, which is RHE;
+/// `Refused` with `BAD_DECODING_ERROR` where the fields have not the layout of the frame's type; `NoMemory` where the
+/// room for a url or a reason is refused.
 pub fn content_of<'a>(alloc: Global, frame: &Frame<'a>) -> Result<Content<'a>, ContentFault>
     ensures found { IfOk result (λ content. content_in frame.now ≡ Ok content) }
     ensures refused { IfErr result (IsContentFault frame.now) }

@@ -84,11 +84,12 @@ fn open_at(fields: &[u8]) -> Option<OpenChunk<'_>>
     })
 }
 
-/// What an OPN frame carries: channel id, policy URI, sequence number, request id and body. The certificate and
-/// the thumbprint of the security header are passed over. OPC 10000-6, 6.7.2.3 and 6.7.2.4.
+/// What an OPN frame carries: channel id, policy URI, sequence number, request id and body. The certificate and the
+/// thumbprint of the security header are passed over. It takes no memory. OPC 10000-6, 6.7.2.3 and 6.7.2.4.
 ///
-/// `Err` is `BAD_DECODING_ERROR`, where the frame is no OPN or its fields don't have an OPN's layout. The call
-/// takes no memory.
+/// # Errors
+///
+/// `BAD_DECODING_ERROR` exactly where the frame is no OPN, or its fields have not the layout of one.
 pub fn open_chunk<'a>(frame: &Frame<'a>) -> Result<OpenChunk<'a>, u32>
     ensures found { IfOk result (λ c. open_chunk_in frame.now ≡ Some c) }
     ensures refused { IfErr result (λ status. (open_chunk_in frame.now ≡ None) × (status ≡ 0x80070000)) }

@@ -45,8 +45,8 @@ impl Sequence {
         Sequence { next: first }
     }
 
-    /// Gives the next number. The j-th call on a sequence that starts at `first` gives
-    /// `(first + j - 2) % 4294966272 + 1`.
+    /// Gives the next number. The j-th call on a sequence that starts at `first` gives `(first + j - 2) % 4294966272 +
+    /// 1`. OPC 10000-6, 6.7.2.4.
     pub fn take(&mut self) -> u32
         ensures number { result ≡ self.old }
         ensures range { IsNumber result }

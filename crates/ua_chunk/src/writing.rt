@@ -1,6 +1,6 @@
 //! Frames that are written.
 
-ghost use Rattle.std.specs.Prelude.{◌≡◌, ◌+◌, ◌<◌, ◌≤◌, ◌^◌, ◌++◌, length, take, is_ok, if◌then◌else◌, OnOk, OnErr};
+ghost use Rattle.std.specs.Prelude.{◌≡◌, ◌+◌, ◌<◌, ◌≤◌, ◌^◌, ◌++◌, ◌∷◌, [], length, take, is_ok, if◌then◌else◌, OnOk, OnErr};
 ghost use Rattle.std.specs.Int.{w32, to_le_bytes};
 ghost use Rattle.ua_frame.specs.Layout.{header};
 ghost use Rattle.ua_chunk.specs.Numbers.{number_after};
@@ -33,6 +33,7 @@ pub struct Head {
 }
 
 /// How many chunks hold a message of `len` bytes with at most `part_limit` bytes in each. An empty message has one.
+/// OPC 10000-6, 6.7.2.
 pub fn chunk_count(len: u64, part_limit: u32) -> u64
     requires { 1 ≤ part_limit }
     ensures { result ≡ part_count len part_limit }
@@ -59,6 +60,21 @@ fn put_number(number: u32, out: &mut Vec<u8>) -> Result<(), NoMemory>
     out.extend_from_slice(&number.to_le_bytes())
 }
 
+/// What stands between the type of a chunk's frame and its body: flag, size and numbers.
+fn numbers(flag: u8, head: &Head, number: u32, len: u32) -> [u8; 21]
+    requires { 24 + len < 2 ^ 32 }
+    ensures { result ≡ (flag ∷ []) ++ to_le_bytes w32 (8 + (16 + len)) ++ to_le_bytes w32 head.now.channel ++ to_le_bytes w32 head.now.token ++ to_le_bytes w32 number ++ to_le_bytes w32 head.now.request_id }
+{
+    let [l0, l1, l2, l3] = (HEADER + NUMBERS + len).to_le_bytes();
+    let [c0, c1, c2, c3] = head.channel.to_le_bytes();
+    let [t0, t1, t2, t3] = head.token.to_le_bytes();
+    let [n0, n1, n2, n3] = number.to_le_bytes();
+    let [r0, r1, r2, r3] = head.request_id.to_le_bytes();
+    [
+        flag, l0, l1, l2, l3, c0, c1, c2, c3, t0, t1, t2, t3, n0, n1, n2, n3, r0, r1, r2, r3,
+    ]
+}
+
 /// Appends the frame of one chunk, or where memory runs out a beginning of it.
 fn put_chunk(
     kind: Kind,
@@ -72,11 +88,10 @@ fn put_chunk(
     ensures ok { OnOk result (out.new.items ≡ out.old.items ++ chunk_frame kind flag head.now.channel head.now.token number head.now.request_id body.now) }
     ensures err { OnErr result (take (length out.old.items) out.new.items ≡ out.old.items) }
 {
-    put_header(kind, flag, NUMBERS + body.len() as u32, out)?;
-    put_number(head.channel, out)?;
-    put_number(head.token, out)?;
-    put_number(number, out)?;
-    put_number(head.request_id, out)?;
+    let len = body.len() as u32;
+    out.reserve((HEADER + NUMBERS + len) as usize)?;
+    out.extend_from_slice(kind.name())?;
+    out.extend_from_slice(&numbers(flag, head, number, len))?;
     out.extend_from_slice(body)
 }
 
@@ -153,11 +168,13 @@ fn put_message(
     write_chunk(Kind::Message, b'F', head, sequence, rest, out)
 }
 
-/// Appends the MSG frames of a message: parts of `part_limit` bytes, the last of 1 to `part_limit` bytes, and one
-/// empty part for an empty `body`. Each is flagged `C` but the last, which is `F`, and each has the next sequence
-/// number. OPC 10000-6, 6.7.2.2 to 6.7.2.4.
+/// Appends the MSG frames of a message: parts of `part_limit` bytes, the last of 1 to `part_limit` bytes, and one empty
+/// part for an empty `body`. Each is flagged `C` but the last, which is `F`, and each has the next sequence number.
+/// OPC 10000-6, 6.7.2.2 to 6.7.2.4.
 ///
-/// After `NoMemory`, `out` and `sequence` are unchanged.
+/// # Errors
+///
+/// `NoMemory` where the growth of `out` is refused; `out` and `sequence` are then unchanged.
 pub fn write_chunks(
     body: &[u8],
     head: &Head,
@@ -184,10 +201,12 @@ pub fn write_chunks(
     }
 }
 
-/// Appends the OPN frame with the body of an open request or response, by the policy None, without certificate and
-/// thumbprint. OPC 10000-6, 6.7.2.
+/// Appends the OPN frame with the body of an open request or response, under the security policy None, without
+/// certificate and thumbprint. It has the next sequence number. OPC 10000-6, 6.7.2.
 ///
-/// After `NoMemory`, `out` and `sequence` are unchanged.
+/// # Errors
+///
+/// `NoMemory` where the growth of `out` is refused; `out` and `sequence` are then unchanged.
 pub fn write_open(
     channel: u32,
     request_id: u32,
@@ -212,9 +231,11 @@ pub fn write_open(
     }
 }
 
-/// Appends the CLO frame with the body of a close request. OPC 10000-6, 6.7.2.
+/// Appends the CLO frame with the body of a close request. It has the next sequence number. OPC 10000-6, 6.7.2.
 ///
-/// After `NoMemory`, `out` and `sequence` are unchanged.
+/// # Errors
+///
+/// `NoMemory` where the growth of `out` is refused; `out` and `sequence` are then unchanged.
 pub fn write_close(
     channel: u32,
     token: u32,
@@ -235,10 +256,12 @@ pub fn write_close(
     write_chunk(Kind::Close, b'F', &head, sequence, body, out)
 }
 
-/// Appends the MSG frame by which a sender gives a message up, with the reason as a status and no text.
-/// OPC 10000-6, 6.7.3.
+/// Appends the MSG frame by which a sender gives a message up, with the reason as a status and no text. It has the next
+/// sequence number. OPC 10000-6, 6.7.3.
 ///
-/// After `NoMemory`, `out` and `sequence` are unchanged.
+/// # Errors
+///
+/// `NoMemory` where the growth of `out` is refused; `out` and `sequence` are then unchanged.
 #[tactic(auto, unfolding(crate::specs::Layout::abort_body, ua_value::specs::Number::unsigned, ua_value::specs::Text::bytes_of))]
 pub fn write_abort(
     channel: u32,

@@ -13,6 +13,7 @@ pub mod Machine
 pub mod FirstFault
 pub mod Taking
 pub mod Ranges
+pub mod Kept
 pub mod Telling
 pub mod Effects
 pub mod Hearing

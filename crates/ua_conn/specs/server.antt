@@ -10,6 +10,7 @@ pub mod Whole
 pub mod Effects
 pub mod Taking
 pub mod Ranges
+pub mod Kept
 pub mod Unread
 pub mod Opening
 pub mod Parts

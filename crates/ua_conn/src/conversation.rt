@@ -13,11 +13,13 @@ use crate::story::{Setup, Story};
 use std::alloc::Global;
 use ua_value::NoMemory;
 
-/// Runs a client and a server against each other, step by step. Every byte that the one writes comes to the other,
-/// in order, in the pieces that the schedule says; bytes for an end that takes no more are dropped, and a command
-/// that the client refuses changes nothing.
+/// Runs a client and a server against each other, step by step. Every byte that the one writes comes to the other, in
+/// order, in the pieces that the schedule says; bytes for an end that takes no more are dropped, and a command that the
+/// client refuses changes nothing. OPC 10000-6, 6.7 and 7.1.
 ///
-/// `Err` says that a growth was refused. OPC 10000-6, 6.7 and 7.1.
+/// # Errors
+///
+/// `NoMemory` where a growth was refused; nothing of the story is given then.
 pub fn converse(alloc: Global, setup: &Setup, schedule: &[Step]) -> Result<Story, NoMemory>
     requires channel { 0 < setup.now.channel_id }
     requires config { IsConfig setup.now.config }

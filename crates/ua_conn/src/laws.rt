@@ -1,7 +1,5 @@
 //! Laws of the definitions of a connection: what they say is true of every stream of bytes.
 
-ghost use Rattle.std.specs.Prelude.{◌≡◌, List};
-ghost use Rattle.ua_frame.specs.Streams.{TimedByte, Framed, cuts_of, rest_of};
 ghost use Rattle.ua_conn.specs.server.FirstFault.{StopsFirst};
 ghost use Rattle.ua_conn.specs.server.Held.{ByRecord};
 ghost use Rattle.ua_conn.specs.client.FirstFault.{ClientStopsFirst, ClientStaysStopped};
@@ -10,13 +8,6 @@ ghost use Rattle.ua_conn.specs.BothEnds.{Faithful, HandedAndAccepted, NothingRef
 ghost use Rattle.ua_conn.specs.server.Legal.{HasRoom, BeginsLegal};
 ghost use Rattle.ua_conn.specs.server.Site.{Site};
 ghost use Rattle.ua_conn.specs.server.Whole.{StaysStopped, SameForAnyCut};
-
-/// A stream is one list of frames and one rest, those of `cuts_of` and `rest_of`. OPC 10000-6, 7.1.2.2.
-pub fn framed()
-    ensures some { (s : List TimedByte) → Framed s (cuts_of s) (rest_of s) }
-    ensures one { (s : List TimedByte) (fs gs : List (List TimedByte)) (r q : List TimedByte) →
-        Framed s fs r → Framed s gs q → (fs ≡ gs) × (r ≡ q) }
-{}
 
 /// What one more piece brings to a server that goes on depends on the record of what it holds and the piece alone:
 /// the bytes that the reply gains, the requests that are handed on, the end, and the record then.
@@ -74,11 +65,11 @@ pub fn faithful()
     ensures { Faithful }
 {}
 
-/// The law of both ends, its first part. For every setup and every schedule of requests that are values: what the server
-/// is handed is a beginning of what the client asked, in order; and each answer that the client accepted stands in the
-/// place of its request and under its id, and is the discovery answer at the moment at which the server had the request
-/// whole, or the abort in its place where that answer passes the limits that the client's Hello names. Tokens may die
-/// on the way, and not all need be delivered. OPC 10000-4, 5.5; OPC 10000-6, 6.7 and 7.1.
+/// The law of both ends, its first part. For every setup and every schedule of requests that are values: what the
+/// server is handed is a beginning of what the client asked, in order; and each answer that the client accepted stands
+/// in the place of its request and under its id, and is the discovery answer at the moment at which the server had the
+/// request whole, or the abort in its place where that answer passes the limits that the client's Hello names. Tokens
+/// may die on the way, and not all need be delivered. OPC 10000-4, 5.5; OPC 10000-6, 6.7 and 7.1.
 pub fn handed()
     ensures { HandedAndAccepted }
 {}

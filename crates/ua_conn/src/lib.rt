@@ -1,4 +1,5 @@
-//! Both ends of a connection: what each owes to a stream of bytes, the server and the client, and what they say to each other.
+//! Both ends of a connection: what each owes to a stream of bytes, the server and the client, and what they say to each
+//! other.
 #![tactic(auto)]
 
 mod bytes;

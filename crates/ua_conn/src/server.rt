@@ -86,9 +86,11 @@ impl<'a> Model for Server<'a> {
 }
 
 impl<'a> Server<'a> {
-    /// A server that has heard nothing yet, for the channel with this id, which is not 0.
+    /// A server that has heard nothing yet, for the channel with this id, which is not 0. OPC 10000-6, 6.7 and 7.1.
     ///
-    /// `Err` says that a growth was refused.
+    /// # Errors
+    ///
+    /// `NoMemory` where a growth was refused.
     pub fn new(
         alloc: Global,
         settings: &'a Settings,
@@ -112,14 +114,19 @@ impl<'a> Server<'a> {
     }
 
     /// Takes one more piece, which came at `now`: ticks of 100 ns since 1601-01-01 UTC. A moment before 0, or before
-    /// that of an earlier piece, counts as that.
+    /// that of an earlier piece, counts as that. OPC 10000-6, 6.7.2 to 6.7.4 and 7.1.2.3 to 7.1.2.5; OPC 10000-4, 5.6.2
+    /// and 5.6.3.
     ///
     /// `out` gains what the server says to the piece: an Acknowledge, open responses, answers, or one error where a
-    /// frame is refused. The result has the requests that the piece made whole, and the end that it brings, if any:
-    /// a close, or a refusal with its status. The server takes no more after an end. `NoMemory` says that a growth
-    /// was refused; `out` has then gained whole frames that begin what the piece is answered, and the server takes no
-    /// more either. `Ended` says that it took no more already; nothing has changed. OPC 10000-6, 6.7.2 to 6.7.4 and
-    /// 7.1.2.3 to 7.1.2.5; OPC 10000-4, 5.6.2 and 5.6.3.
+    /// frame is refused. The result has the requests that the piece made whole, and the end that it brings, if any: a
+    /// close, or a refusal with its status, as the table of docs/PROTOCOL.md says. The server takes no more after an
+    /// end.
+    ///
+    /// # Errors
+    ///
+    /// `Ended` exactly where the server took no more already; nothing has changed then. Else `NoMemory` where a growth
+    /// was refused: `out` has then gained whole frames that begin what the piece is answered, the requests of the piece
+    /// are dropped, and the server takes no more. A frame that is refused is no error of this call.
     pub fn feed(&mut self, now: i64, piece: &[u8], out: &mut Vec<u8>) -> Result<Fed, FeedFault>
         ensures fed { IfOk result (λ fed. FeedsAll self.old (record { moment = counted now; bytes = piece.now }) out.old.items out.new.items fed.requests.items fed.end self.new) }
 

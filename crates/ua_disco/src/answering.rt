@@ -5,7 +5,7 @@ ghost use Rattle.ua_disco.specs.Bounds.{IsConfiguration};
 ghost use Rattle.ua_disco.specs.Answers.{answer_of, servers_found, endpoints_found, find_servers_answer, get_endpoints_answer};
 
 use crate::arrays::array_of;
-use crate::choosing::asks_for;
+use crate::choosing::{asks_for, still_asks_for};
 use crate::settings::Settings;
 use std::alloc::Global;
 use ua_service::{
@@ -50,8 +50,11 @@ fn endpoints(
     let application = settings.application();
     let name = application.names.in_language(&request.locale_ids);
     let offered = settings.endpoints();
+    let mut judged = None;
     for endpoint in offered {
-        if asks_for(&request.profile_uris, &endpoint.transport) {
+        let asked = still_asks_for(&request.profile_uris, &endpoint.transport, judged);
+        judged = Some((&endpoint.transport, asked));
+        if asked {
             found.push(endpoint.describe(application, name)?)?;
         }
     }

@@ -1,11 +1,12 @@
 //! The application of a server, as it is set up.
 
-ghost use Rattle.std.specs.Prelude.{◌≡◌, IfOk};
+ghost use Rattle.std.specs.Prelude.{◌≡◌, ◌++◌, IfOk, OnOk};
+ghost use Rattle.ua_service.specs.Application.{application_description};
 ghost use Rattle.ua_disco.specs.Answers.{described};
 
 use crate::names::Names;
 use ua_service::ApplicationDescription;
-use ua_value::{Array, LocalizedText, NoMemory, UaString, copy_three};
+use ua_value::{Array, LocalizedText, NoMemory, Parts, UaString, copy_three};
 
 /// An application as it is set up (OPC 10000-4, 7.2), with its name in several languages.
 #[derive(Drop)]
@@ -44,5 +45,26 @@ impl Application {
             discovery_profile_uri,
             discovery_urls,
         })
+    }
+
+    /// Puts what its description is written as, under one of its names, with none made.
+    #[tactic(auto, unfolding(ua_service::specs::Application::application_description))]
+    pub(crate) fn put(&self, name: &LocalizedText, out: &mut Vec<u8>) -> Result<(), NoMemory>
+        ensures { OnOk result (out.new.items ≡ out.old.items ++ application_description.canon (described self.now name.now)) }
+    {
+        (
+            &self.uri,
+            (
+                &self.product_uri,
+                (
+                    name,
+                    (
+                        &self.kind,
+                        (&self.gateway_uri, (&self.profile_uri, &self.discovery_urls)),
+                    ),
+                ),
+            ),
+        )
+            .emit_parts(out)
     }
 }

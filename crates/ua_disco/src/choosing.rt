@@ -1,6 +1,6 @@
 //! What the lists of a request ask for (OPC 10000-4, 5.5.2 and 5.5.4).
 
-ghost use Rattle.std.specs.Prelude.{◌≡◌};
+ghost use Rattle.std.specs.Prelude.{◌≡◌, IfSome};
 ghost use Rattle.ua_disco.specs.Choosing.{same_text, is_among, is_asked};
 
 use ua_value::{Array, UaString};
@@ -35,5 +35,21 @@ pub(crate) fn asks_for(filter: &Array<UaString>, text: &UaString) -> bool
         None => true,
         Some([]) => true,
         Some(texts) => is_one_of(text, texts),
+    }
+}
+
+/// Whether a filter asks for what has this text, given the verdict over another one, if there is one: where both are the
+/// same, the filter is not searched again. So a run of equal texts costs one search, however long the filter is.
+pub(crate) fn still_asks_for(
+    filter: &Array<UaString>,
+    text: &UaString,
+    judged: Option<(&UaString, bool)>,
+) -> bool
+    requires { IfSome judged (λ j. j.1 ≡ is_asked filter.now j.0.now) }
+    ensures { result ≡ is_asked filter.now text.now }
+{
+    match judged {
+        Some((other, asked)) if is_same(text, other) => asked,
+        _ => asks_for(filter, text),
     }
 }

@@ -1,11 +1,14 @@
 //! The endpoints of a server, as they are set up.
 
-ghost use Rattle.std.specs.Prelude.{◌≡◌, IfOk};
+ghost use Rattle.std.specs.Prelude.{◌≡◌, ◌++◌, IfOk, OnOk};
+ghost use Rattle.ua_service.specs.Endpoint.{endpoint_description};
 ghost use Rattle.ua_disco.specs.Answers.{described_endpoint};
 
 use crate::application::Application;
 use ua_service::{EndpointDescription, UserTokenPolicy};
-use ua_value::{Array, LocalizedText, NoMemory, UaBytes, UaString, copy_three, copy_two};
+use ua_value::{
+    Array, LocalizedText, NoMemory, Parts, UaBytes, UaString, Wire, copy_three, copy_two,
+};
 
 /// An endpoint as it is set up (OPC 10000-4, 7.14).
 #[derive(Drop)]
@@ -46,5 +49,26 @@ impl Endpoint {
             transport_profile_uri,
             security_level: self.level,
         })
+    }
+
+    /// Puts what its description is written as, as an endpoint of the application under one of its names, with none made.
+    pub(crate) fn put(
+        &self,
+        application: &Application,
+        name: &LocalizedText,
+        out: &mut Vec<u8>,
+    ) -> Result<(), NoMemory>
+        ensures { OnOk result (out.new.items ≡ out.old.items ++ endpoint_description.canon (described_endpoint application.now name.now self.now)) }
+    {
+        self.url.emit(out)?;
+        application.put(name, out)?;
+        (
+            &self.certificate,
+            (
+                &self.mode,
+                (&self.policy, (&self.tokens, (&self.transport, &self.level))),
+            ),
+        )
+            .emit_parts(out)
     }
 }

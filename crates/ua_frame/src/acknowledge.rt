@@ -73,10 +73,12 @@ impl Ack {
         }
     }
 
-    /// The Acknowledge that a frame is.
+    /// The Acknowledge that a frame is. It takes no memory. OPC 10000-6, 7.1.2.4.
     ///
-    /// `Refused` (status `BAD_DECODING_ERROR`) says that the frame is of another type, or that its fields, all of
-    /// them, spell no Acknowledge. It takes no memory, so there is no other fault. OPC 10000-6, 7.1.2.4.
+    /// # Errors
+    ///
+    /// `Refused` (status `BAD_DECODING_ERROR`) exactly where the frame is of another type, or its fields, all of them,
+    /// spell no Acknowledge. No other fault comes.
     pub fn read(frame: &Frame) -> Result<Ack, ReadFault>
         // What is read is spelled so, and what is spelled so is not refused.
         ensures spelled { ReadsAll (λ a fields. (frame.now.kind ≡ Kind.Acknowledge) × acknowledge_layout.grammar.spells a fields) frame.now.fields result }
@@ -93,7 +95,11 @@ impl Ack {
         }
     }
 
-    /// Appends the whole frame, or leaves `out` unchanged where its growth is refused. OPC 10000-6, 7.1.2.4.
+    /// Appends the whole frame. OPC 10000-6, 7.1.2.4.
+    ///
+    /// # Errors
+    ///
+    /// `NoMemory` where the growth of `out` is refused; `out` is then unchanged.
     pub fn write(&self, out: &mut Vec<u8>) -> Result<(), NoMemory>
         ensures { out.new.items ≡ (if is_ok result then out.old.items ++ acknowledge_frame self.now else out.old.items) }
     {

@@ -24,19 +24,22 @@ pub struct FrameBuf {
 impl Model for FrameBuf {
     ghost use Rattle.std.specs.Prelude.{◌≤◌, drop, length, vec_capacity};
     ghost use Rattle.ua_frame.specs.Buffer.{Buffered, IsRoom};
+    ghost use Rattle.ua_frame.specs.Held.{IsAll};
 
     ghost Value = { Buffered };
 
     ghost view = { λ a. record { bytes = drop a.start a.bytes.items; capacity = a.capacity } };
 
-    ghost invariant = { λ a. IsRoom a.start (length a.bytes.items) a.capacity (vec_capacity a.bytes) };
+    ghost invariant = { λ a. IsRoom a.start (length a.bytes.items) a.capacity (vec_capacity a.bytes) (IsAll a) };
 }
 
 impl FrameBuf {
-    /// An empty buffer with room for `capacity` bytes, from 8192 to 1048576. The room is reserved here and never
-    /// again, and is not filled.
+    /// An empty buffer with room for `capacity` bytes, from 8192 to 1048576. The room is reserved here and never again,
+    /// and is not filled. OPC 10000-6, 7.1.2.3 and 7.1.2.4 (buffer sizes).
     ///
-    /// `NoMemory` comes only where the reservation was refused. OPC 10000-6, 7.1.2.3 and 7.1.2.4 (buffer sizes).
+    /// # Errors
+    ///
+    /// `NoMemory` where the room is refused.
     pub fn with_capacity(alloc: Global, capacity: usize) -> Result<FrameBuf, NoMemory>
         requires least { 8192 ≤ capacity }
         requires most { capacity ≤ 1048576 }
@@ -77,11 +80,15 @@ impl FrameBuf {
         taken
     }
 
-    /// The frame that the bytes begin with, as [`frame_at`] finds it: lent, where it is whole and at most `limit`
-    /// bytes long. OPC 10000-6, 7.1.2.2, 6.7.2.2 and 7.1.5.
+    /// The frame that the bytes begin with, as [`frame_at`] finds it: lent, where it is whole and at most `limit` bytes
+    /// long. It takes no memory. OPC 10000-6, 7.1.2.2, 6.7.2.2 and 7.1.5.
     ///
     /// `Ok(None)` says that more bytes are needed. A full buffer whose capacity is at least `limit` never says so.
-    /// `Err` is the status of the first thing that is wrong with the header.
+    ///
+    /// # Errors
+    ///
+    /// The status of the first thing that is wrong with the header, as [`frame_at`] judges it. The bytes are still held
+    /// then.
     pub fn first(&self, limit: u32) -> Result<Option<Frame<'_>>, u32>
         // The header decides, whether the rest of the frame is there or not.
         ensures refused { IfErr result (λ status. header_fault limit self.now.bytes ≡ Some status) }

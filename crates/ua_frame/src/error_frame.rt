@@ -38,10 +38,12 @@ impl ErrorFrame {
         Ok(ErrorFrame { status, reason })
     }
 
-    /// The error that a frame is.
+    /// The error that a frame is. OPC 10000-6, 7.1.2.5.
     ///
-    /// `Refused` (status `BAD_DECODING_ERROR`) says that the frame is of another type, or that its fields, all of
-    /// them, spell no error; `NoMemory` that the reason's growth was refused. OPC 10000-6, 7.1.2.5.
+    /// # Errors
+    ///
+    /// `Refused` (status `BAD_DECODING_ERROR`) where the frame is of another type, or its fields, all of them, spell no
+    /// error; `NoMemory` where the room for the reason is refused.
     pub fn read(alloc: Global, frame: &Frame) -> Result<ErrorFrame, ReadFault>
         // What is read is spelled so, and what is spelled so is not refused.
         ensures spelled { ReadsAll (λ e fields. (frame.now.kind ≡ Kind.Error) × error_layout.grammar.spells e fields) frame.now.fields result }
@@ -55,7 +57,11 @@ impl ErrorFrame {
         }
     }
 
-    /// Appends the whole frame, or leaves `out` unchanged where its growth is refused. OPC 10000-6, 7.1.2.5.
+    /// Appends the whole frame. OPC 10000-6, 7.1.2.5.
+    ///
+    /// # Errors
+    ///
+    /// `NoMemory` where the growth of `out` is refused; `out` is then unchanged.
     pub fn write(&self, out: &mut Vec<u8>) -> Result<(), NoMemory>
         ensures { out.new.items ≡ (if is_ok result then out.old.items ++ error_frame self.now else out.old.items) }
     {

@@ -103,13 +103,18 @@ pub(crate) fn size_in(bytes: &[u8]) -> u32
     u32::from_le_bytes([bytes[4], bytes[5], bytes[6], bytes[7]])
 }
 
-/// The frame that the bytes begin with, where it is whole and at most `limit` bytes long.
+/// The frame that the bytes begin with, where it is whole and at most `limit` bytes long. It takes no memory.
+/// OPC 10000-6, 7.1.2.2, 6.7.2.2 and 7.1.5.
 ///
-/// `Ok(None)` says that more bytes are needed: no beginning of these is a frame, and as far as its 8 bytes are
-/// there, the header is in order. `Err` is the status of the first thing that is wrong with the header, as soon
-/// as its 8 bytes are there: a type that is none of [`Kind`], then a flag that is not one of the type
-/// (`BAD_TCP_MESSAGE_TYPE_INVALID`), then a size of less than 8 bytes (`BAD_DECODING_ERROR`), then one of more
-/// than `limit` bytes (`BAD_TCP_MESSAGE_TOO_LARGE`). OPC 10000-6, 7.1.2.2, 6.7.2.2 and 7.1.5.
+/// `Ok(None)` says that more bytes are needed: no beginning of these is a frame, and as far as its 8 bytes are there,
+/// the header is in order.
+///
+/// # Errors
+///
+/// As soon as the 8 bytes of the header are there, the status of the first of these that holds:
+/// `BAD_TCP_MESSAGE_TYPE_INVALID` where the type is none of [`Kind`], and where the flag is none of that type's;
+/// `BAD_DECODING_ERROR` where the size is under 8 bytes; `BAD_TCP_MESSAGE_TOO_LARGE` where it is over `limit` bytes.
+/// These are the header rows of docs/PROTOCOL.md, which hold whether the rest of the frame is there or not.
 pub fn frame_at(bytes: &[u8], limit: u32) -> Result<Option<Frame<'_>>, u32>
     // The header decides, whether the rest of the frame is there or not.
     ensures refused { IfErr result (λ status. header_fault limit bytes.now ≡ Some status) }

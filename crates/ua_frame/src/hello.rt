@@ -55,10 +55,12 @@ impl Hello {
         })
     }
 
-    /// The Hello that a frame is.
+    /// The Hello that a frame is. OPC 10000-6, 7.1.2.3.
     ///
-    /// `Refused` (status `BAD_DECODING_ERROR`) says that the frame is of another type, or that its fields, all of
-    /// them, spell no Hello; `NoMemory` that the url's growth was refused. OPC 10000-6, 7.1.2.3.
+    /// # Errors
+    ///
+    /// `Refused` (status `BAD_DECODING_ERROR`) where the frame is of another type, or its fields, all of them, spell no
+    /// Hello; `NoMemory` where the room for the url is refused.
     pub fn read(alloc: Global, frame: &Frame) -> Result<Hello, ReadFault>
         // What is read is spelled so, and what is spelled so is not refused.
         ensures spelled { ReadsAll (λ h fields. (frame.now.kind ≡ Kind.Hello) × hello_layout.grammar.spells h fields) frame.now.fields result }
@@ -72,7 +74,11 @@ impl Hello {
         }
     }
 
-    /// Appends the whole frame, or leaves `out` unchanged where its growth is refused. OPC 10000-6, 7.1.2.3.
+    /// Appends the whole frame. OPC 10000-6, 7.1.2.3.
+    ///
+    /// # Errors
+    ///
+    /// `NoMemory` where the growth of `out` is refused; `out` is then unchanged.
     pub fn write(&self, out: &mut Vec<u8>) -> Result<(), NoMemory>
         ensures { out.new.items ≡ (if is_ok result then out.old.items ++ hello_frame self.now else out.old.items) }
     {

@@ -42,7 +42,7 @@ impl Kind {
         }
     }
 
-    /// The three bytes that name this type.
+    /// The three bytes that name this type. OPC 10000-6, 7.1.2.2 and 6.7.2.2.
     pub fn name(self) -> &'static [u8]
         ensures { result.now ≡ name_of self }
     {

@@ -28,12 +28,16 @@ fn is_long(url: &UaString) -> bool
     }
 }
 
-/// What a server with these limits answers to a Hello.
+/// What a server with these limits answers to a Hello. It takes no memory. OPC 10000-6, 7.1.2.3 and 7.1.2.4.
 ///
-/// The version is 0; each direction gets the lesser of what its two ends take, and the limits on requests are the
-/// server's. Any version of the client is accepted, and any url of at most 4095 bytes, null included. `Err` is the
-/// status of the first thing that is wrong: a url of more than 4095 bytes (`BAD_TCP_ENDPOINT_URL_INVALID`), then a
-/// buffer of the client's of less than 8192 bytes (`BAD_TCP_NOT_ENOUGH_RESOURCES`). OPC 10000-6, 7.1.2.3 and 7.1.2.4.
+/// The version is 0; in each direction a frame has at most as many bytes as the one end sends and the other takes, and
+/// the limits on requests are the server's. Any version of the client is accepted, and any url of at most 4095 bytes,
+/// null included.
+///
+/// # Errors
+///
+/// The status of the first of these that holds: `BAD_TCP_ENDPOINT_URL_INVALID` where the url has more than 4095 bytes;
+/// `BAD_TCP_NOT_ENOUGH_RESOURCES` where one of the client's buffers is smaller than 8192 bytes.
 pub fn negotiate(hello: &Hello, limits: &Limits) -> Result<Ack, u32>
     ensures refused { IfErr result (λ status. first_row (hello_rows (Some hello.now)) ≡ Some status) }
     ensures passed { IfOk result (λ ack. first_row (hello_rows (Some hello.now)) ≡ None) }

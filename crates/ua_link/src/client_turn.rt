@@ -23,9 +23,13 @@ pub enum ClientTurn {
     Fault(ClientFault),
 }
 
-/// Sends all of a client's output. `Err` says that the link failed before all of it was out. What went out is dropped
-/// from the output, and nothing else of the client changes, which may have failed before. Fewer than 2^64 - 1 calls of
-/// the link failed before.
+/// Sends all of a client's output, whether the client has failed or not, and drops from the output what went out.
+/// Nothing else of the client changes. Fewer than 2^64 - 1 calls of the link failed before. OPC 10000-6, 7.1.
+///
+/// # Errors
+///
+/// `LinkFault` where the link failed before all of the output was out. What went out before is dropped from it all the
+/// same.
 pub fn send_output<L: Link>(client: &mut Client, link: &mut L) -> Result<(), LinkFault>
     requires { L.fault_count link.old < 2 ^ 64 - 1 }
     ensures spoken { let before : Seen = record { input = L.input link.old; output = L.output link.old; faults = L.fault_count link.old } in
@@ -48,8 +52,8 @@ pub fn send_output<L: Link>(client: &mut Client, link: &mut L) -> Result<(), Lin
     }
 }
 
-/// One turn of a client: its output is sent until none is left, then one read of at most 4096 bytes follows, after which
-/// the clock is asked, and the client takes what came.
+/// One turn of a client: its output is sent until none is left, then one read of at most 4096 bytes follows, after
+/// which the clock is asked, and the client takes what came.
 ///
 /// `Answers` has the answers that the bytes made whole, and `Fault` says why the client takes no more; at least one
 /// byte was read then. `InputEnded` says that the input ended, and the client heard nothing. `LinkFailed` says that a

@@ -20,10 +20,12 @@ pub trait Link {
     /// How many calls failed so far.
     ghost fault_count: { Self → ℕ };
 
-    /// Reads the next bytes into the front of `buf`, which has room for one at least, and says how many came. 0 is
-    /// the end of the input.
+    /// Reads the next bytes into the front of `buf`, which has room for one at least, and says how many came. 0 is the
+    /// end of the input. Fewer than 2^64 - 1 calls failed before.
     ///
-    /// A fault is counted, and no byte came with it. Fewer than 2^64 - 1 calls failed before.
+    /// # Errors
+    ///
+    /// `LinkFault` where the read failed. It is counted, and no byte came with it.
     fn recv(&mut self, buf: &mut [u8]) -> Result<usize, LinkFault>
         requires room { 0 < length buf.old }
         requires countable { fault_count self.old < 2 ^ 64 - 1 }
@@ -32,9 +34,12 @@ pub trait Link {
         ensures kept { output self.new ≡ output self.old }
         ensures counted { Counts result (fault_count self.old) (fault_count self.new) };
 
-    /// Writes a beginning of `bytes`, and says how many went out: one at least, where there is one.
+    /// Writes a beginning of `bytes`, and says how many went out: one at least, where there is one. Fewer than 2^64 - 1
+    /// calls failed before.
     ///
-    /// A fault is counted, and no byte went out with it. Fewer than 2^64 - 1 calls failed before.
+    /// # Errors
+    ///
+    /// `LinkFault` where the write failed. It is counted, and no byte went out with it.
     fn send(&mut self, bytes: &[u8]) -> Result<usize, LinkFault>
         requires countable { fault_count self.old < 2 ^ 64 - 1 }
         ensures bound { WritesAtMost result bytes.now }

@@ -89,7 +89,11 @@ impl<'a> Link for MemoryLink<'a> {
         Ok(n)
     }
 
-    /// Takes as many bytes as the limit allows. It fails where a growth is refused.
+    /// Takes as many bytes as the limit allows.
+    ///
+    /// # Errors
+    ///
+    /// `LinkFault` where a growth was refused. It is counted, and nothing was taken.
     fn send(&mut self, bytes: &[u8]) -> Result<usize, LinkFault>
         requires countable { self.old.failures < 2 ^ 64 - 1 }
         ensures bound { WritesAtMost result bytes.now }

@@ -28,6 +28,11 @@ impl<S> TcpLink<S> {
 impl<S: Read + Write> Link for TcpLink<S> {
     ghost fault_count = { λ l. l.failures };
 
+    /// Reads from the stream once.
+    ///
+    /// # Errors
+    ///
+    /// `LinkFault` where the read fails. It is counted.
     fn recv(&mut self, buf: &mut [u8]) -> Result<usize, LinkFault> {
         match self.stream.read(buf) {
             Ok(n) => Ok(n),
@@ -38,7 +43,11 @@ impl<S: Read + Write> Link for TcpLink<S> {
         }
     }
 
-    /// A stream that takes none of some bytes has failed.
+    /// Writes to the stream once.
+    ///
+    /// # Errors
+    ///
+    /// `LinkFault` where the write fails, and where the stream takes none of some bytes. It is counted.
     fn send(&mut self, bytes: &[u8]) -> Result<usize, LinkFault> {
         match self.stream.write(bytes) {
             Ok(n) if n > 0 || bytes.is_empty() => Ok(n),

@@ -8,7 +8,7 @@ use ua_value::{
 };
 
 /// An application that can be found (OPC 10000-4, 7.2).
-#[derive(Drop)]
+#[derive(Debug, PartialEq, Eq, Drop)]
 pub struct ApplicationDescription {
     /// The globally unique name of this instance.
     pub application_uri: UaString,

@@ -14,17 +14,25 @@ use ua_value::{Identifier, NoMemory, NodeId, ReadFault, Sink, Wire, read_whole};
 pub trait Body: Sized + Drop {
     ghost message: { Message Self };
 
-    /// The number of bytes that `write_body` appends.
+    /// The number of bytes that `write_body` appends. It takes no memory.
     fn body_len(&self) -> u64
         ensures length { result ≡ length (message.canon self.now) }
         ensures value { message.IsValue self.now };
 
-    /// Puts the canonical body, or a beginning of it where memory runs out.
+    /// Puts the canonical body into `out`.
+    ///
+    /// # Errors
+    ///
+    /// `NoMemory` where a growth was refused; a beginning of the body may have been put.
     fn emit_body<S: Sink>(&self, out: &mut S) -> Result<(), NoMemory>
         ensures ok { OnOk result (S.contents out.new ≡ S.contents out.old ++ message.canon self.now) }
         ensures err { OnErr result (AppendsPart (S.contents out.old) (S.contents out.new) (message.canon self.now)) };
 
-    /// Appends the canonical body, or leaves `out` unchanged. The room for all of it is asked for once, before the first byte.
+    /// Appends the canonical body. The room for all of it is asked for once, before the first byte.
+    ///
+    /// # Errors
+    ///
+    /// `NoMemory` where a growth was refused; `out` is then unchanged.
     fn write_body(&self, out: &mut Vec<u8>) -> Result<(), NoMemory>
         ensures { out.new.items ≡ (if is_ok result then out.old.items ++ message.canon self.now else out.old.items) }
     {
@@ -39,7 +47,13 @@ pub trait Body: Sized + Drop {
         }
     }
 
-    /// The message of which the whole input is a body.
+    /// The message of which the whole input is a body. Each type says it here; callers use
+    /// `read_body`.
+    ///
+    /// # Errors
+    ///
+    /// `Refused` where the input is the body of no such message, as where bytes are left over;
+    /// `NoMemory` where a growth was refused, which says nothing of the input.
     fn parse_body(alloc: Global, input: &[u8]) -> Result<Self, ReadFault>
         requires { length input.now ≤ input_limit }
         ensures { Gives (λ v. v) result (message.message_of input.now) };
@@ -48,8 +62,8 @@ pub trait Body: Sized + Drop {
     ///
     /// # Errors
     ///
-    /// `Refused` exactly where it is the body of no such message, as where a byte is left over;
-    /// `NoMemory` where a growth was refused.
+    /// `Refused` where the input is the body of no such message, as where bytes are left over;
+    /// `NoMemory` where a growth was refused, which says nothing of the input.
     fn read_body(alloc: Global, input: &[u8]) -> Result<Self, ReadFault>
         requires { length input.now ≤ input_limit }
         ensures all { ReadsAll message.IsBody input.now result }
@@ -64,14 +78,14 @@ pub trait Body: Sized + Drop {
     ghost laws: { IsLawfulMessage message };
 }
 
-/// The number of bytes of the message's canonical body. It takes no memory.
+/// The number of bytes of the message's canonical body (OPC 10000-6, 5.2.9). It takes no memory.
 pub fn body_len<M: Body>(message: &M) -> u64
     ensures { result ≡ length (M.message.canon message.now) }
 {
     message.body_len()
 }
 
-/// Appends the message's canonical body to `out`.
+/// Appends the message's canonical body to `out` (OPC 10000-6, 5.2.9).
 ///
 /// # Errors
 ///
@@ -82,11 +96,11 @@ pub fn write_body<M: Body>(message: &M, out: &mut Vec<u8>) -> Result<(), NoMemor
     message.write_body(out)
 }
 
-/// The canonical body of a message, which is then dropped.
+/// The canonical body of a message (OPC 10000-6, 5.2.9), which is then dropped.
 ///
 /// # Errors
 ///
-/// `NoMemory` where a growth was refused.
+/// `NoMemory` where a growth was refused; the message is dropped all the same.
 pub fn body_of<M: Body>(alloc: Global, message: M) -> Result<Vec<u8>, NoMemory>
     ensures { IfOk result (λ body. body.items ≡ M.message.canon message) }
 {

@@ -10,7 +10,7 @@ use std::alloc::Global;
 use ua_value::{DateTime, Fields, NoMemory, Parts, ReadFault, Sink, UaBytes, Wire, copy_two};
 
 /// A request that a secure channel is opened or its token renewed (OPC 10000-4, 5.6.2).
-#[derive(Drop)]
+#[derive(Debug, PartialEq, Eq, Drop)]
 pub struct OpenRequest {
     pub header: RequestHeader,
     /// The version of the protocol; that of the client's Hello.
@@ -105,7 +105,7 @@ impl Wire for OpenRequest {
 }
 
 /// The token of a secure channel that was opened or renewed (OPC 10000-4, 5.6.2).
-#[derive(Drop)]
+#[derive(Debug, Drop)]
 pub struct OpenResponse {
     pub header: ResponseHeader,
     /// The version of the protocol; that of the server's Acknowledge.
@@ -214,7 +214,7 @@ impl Wire for OpenResponse {
 }
 
 /// A request that the secure channel is closed (OPC 10000-4, 5.6.3). It has no answer.
-#[derive(Drop)]
+#[derive(Debug, PartialEq, Eq, Drop)]
 pub struct CloseRequest {
     pub header: RequestHeader,
 }

@@ -9,7 +9,7 @@ use std::alloc::Global;
 use ua_value::{Array, Fields, NoMemory, Parts, ReadFault, Sink, UaString, Wire, copy_two};
 
 /// A question for the servers that the receiver knows (OPC 10000-4, 5.5.2).
-#[derive(Drop)]
+#[derive(Debug, PartialEq, Eq, Drop)]
 pub struct FindServersRequest {
     pub header: RequestHeader,
     /// The url by which the client reached the receiver.
@@ -75,7 +75,7 @@ impl Wire for FindServersRequest {
 }
 
 /// The servers that were asked for (OPC 10000-4, 5.5.2).
-#[derive(Drop)]
+#[derive(Debug, Drop)]
 pub struct FindServersResponse {
     pub header: ResponseHeader,
     /// The servers.
@@ -116,7 +116,7 @@ impl Wire for FindServersResponse {
 }
 
 /// A question for the endpoints of a server (OPC 10000-4, 5.5.4).
-#[derive(Drop)]
+#[derive(Debug, PartialEq, Eq, Drop)]
 pub struct GetEndpointsRequest {
     pub header: RequestHeader,
     /// The url by which the client reached the server.
@@ -185,7 +185,7 @@ impl Wire for GetEndpointsRequest {
 }
 
 /// The endpoints that were asked for (OPC 10000-4, 5.5.4).
-#[derive(Drop)]
+#[derive(Debug, Drop)]
 pub struct GetEndpointsResponse {
     pub header: ResponseHeader,
     /// The endpoints.

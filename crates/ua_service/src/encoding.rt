@@ -1,4 +1,5 @@
-//! The ids of the encodings of messages in OPC UA Binary: numbers in namespace 0, with which their bodies begin (OPC 10000-6, 5.2.9 and annex A).
+//! The ids of the encodings of messages in OPC UA Binary: numbers in namespace 0, with which their
+//! bodies begin (OPC 10000-6, 5.2.9 and annex A).
 
 /// A ServiceFault (OPC 10000-4, 7.35).
 pub const SERVICE_FAULT: u32 = 397;

@@ -9,7 +9,7 @@ use ua_value::{
 };
 
 /// A kind of user identity that an endpoint takes (OPC 10000-4, 7.42).
-#[derive(Drop)]
+#[derive(Debug, PartialEq, Eq, Drop)]
 pub struct UserTokenPolicy {
     /// The name of the policy, unique in its endpoint.
     pub policy_id: UaString,
@@ -101,7 +101,7 @@ impl Wire for UserTokenPolicy {
 }
 
 /// An endpoint of a server (OPC 10000-4, 7.14).
-#[derive(Drop)]
+#[derive(Debug, PartialEq, Eq, Drop)]
 pub struct EndpointDescription {
     /// Where the endpoint is.
     pub endpoint_url: UaString,

@@ -11,7 +11,7 @@ use ua_value::{
 use ua_variant::{DiagnosticInfo, ExtensionObject};
 
 /// What stands before the fields of every request (OPC 10000-4, 7.33).
-#[derive(Drop)]
+#[derive(Debug, PartialEq, Eq, Drop)]
 pub struct RequestHeader {
     /// The secret id of the session; the null id where there is none.
     pub authentication_token: NodeId,
@@ -128,7 +128,7 @@ impl Wire for RequestHeader {
 }
 
 /// What stands before the fields of every response (OPC 10000-4, 7.34).
-#[derive(Drop)]
+#[derive(Debug, Drop)]
 pub struct ResponseHeader {
     /// When the server sent the response.
     pub timestamp: DateTime,
@@ -239,7 +239,8 @@ impl Wire for ResponseHeader {
     ghost laws = { lawful_response_header };
 }
 
-/// The header of a request (OPC 10000-4, 7.33): the moment, the client's number for the request, and nothing else. It takes no memory.
+/// The header of a request (OPC 10000-4, 7.33): the moment, the client's number for the request, and nothing else. It
+/// takes no memory.
 pub fn request_header(now: DateTime, handle: u32) -> RequestHeader
     ensures { result ≡ request_header_at now.0 handle }
 {
@@ -270,7 +271,7 @@ pub fn response_header(now: i64, handle: u32, status: u32) -> ResponseHeader
 }
 
 /// The response to a request of which the service failed as a whole (OPC 10000-4, 7.35).
-#[derive(Drop)]
+#[derive(Debug, Drop)]
 pub struct ServiceFault {
     /// Its result is the status of the failure.
     pub header: ResponseHeader,

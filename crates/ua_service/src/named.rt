@@ -1,4 +1,5 @@
-//! Enumerations of OPC 10000-4, by their numbers. The structures keep the number as it came; these name the ones that are known.
+//! Enumerations of OPC 10000-4, by their numbers. The structures keep the number as it came; these name the ones that
+//! are known.
 
 ghost use Rattle.std.specs.Prelude.{◌≡◌, Some, None, IfSome};
 ghost use Rattle.ua_service.specs.Named.{request_type_number, security_mode_number, application_type_number, token_type_number};

@@ -10,7 +10,7 @@ use ua_value::{NoMemory, NodeId, Parts, Raw, Sink, Wire};
 
 /// A request of a service that is read no further than its header. Its id is none of those that
 /// `Request` has a case for.
-#[derive(Drop)]
+#[derive(Debug, Drop)]
 pub struct OtherRequest {
     type_id: NodeId,
     header: RequestHeader,

@@ -14,13 +14,13 @@ use crate::response::Response;
 use std::alloc::Global;
 use ua_value::ReadFault;
 
-/// The request of which the whole input is a body. Behind the header of a request of another
-/// service whatever is left is kept as its rest.
+/// The request of which the whole input is a body (OPC 10000-6, 5.2.9). Behind the header of a
+/// request of another service whatever is left is kept as its rest.
 ///
 /// # Errors
 ///
-/// `Refused` exactly where the input is the body of no such message, as where bytes are left over;
-/// `NoMemory` where a growth was refused.
+/// `Refused` where the input is the body of no such message, as where bytes are left over;
+/// `NoMemory` where a growth was refused, which says nothing of the input.
 pub fn read_request(alloc: Global, input: &[u8]) -> Result<Request, ReadFault>
     requires { length input.now ≤ input_limit }
     ensures all { ReadsAll IsRequestBody input.now result }
@@ -29,12 +29,12 @@ pub fn read_request(alloc: Global, input: &[u8]) -> Result<Request, ReadFault>
     Request::read_body(alloc, input)
 }
 
-/// The response of which the whole input is a body.
+/// The response of which the whole input is a body (OPC 10000-6, 5.2.9).
 ///
 /// # Errors
 ///
-/// `Refused` exactly where the input is the body of no such message, as where bytes are left over;
-/// `NoMemory` where a growth was refused.
+/// `Refused` where the input is the body of no such message, as where bytes are left over;
+/// `NoMemory` where a growth was refused, which says nothing of the input.
 pub fn read_response(alloc: Global, input: &[u8]) -> Result<Response, ReadFault>
     requires { length input.now ≤ input_limit }
     ensures all { ReadsAll IsResponseBody input.now result }
@@ -47,8 +47,8 @@ pub fn read_response(alloc: Global, input: &[u8]) -> Result<Response, ReadFault>
 ///
 /// # Errors
 ///
-/// `Refused` exactly where the input is the body of no such message, as where bytes are left over;
-/// `NoMemory` where a growth was refused.
+/// `Refused` where the input is the body of no such message, as where bytes are left over;
+/// `NoMemory` where a growth was refused, which says nothing of the input.
 #[tactic(auto, unfolding(crate::specs::Message::message))]
 pub fn read_open(alloc: Global, input: &[u8]) -> Result<OpenRequest, ReadFault>
     requires { length input.now ≤ input_limit }
@@ -62,8 +62,8 @@ pub fn read_open(alloc: Global, input: &[u8]) -> Result<OpenRequest, ReadFault>
 ///
 /// # Errors
 ///
-/// `Refused` exactly where the input is the body of no such message, as where bytes are left over;
-/// `NoMemory` where a growth was refused.
+/// `Refused` where the input is the body of no such message, as where bytes are left over;
+/// `NoMemory` where a growth was refused, which says nothing of the input.
 #[tactic(auto, unfolding(crate::specs::Message::message))]
 pub fn read_open_response(alloc: Global, input: &[u8]) -> Result<OpenResponse, ReadFault>
     requires { length input.now ≤ input_limit }
@@ -77,8 +77,8 @@ pub fn read_open_response(alloc: Global, input: &[u8]) -> Result<OpenResponse, R
 ///
 /// # Errors
 ///
-/// `Refused` exactly where the input is the body of no such message, as where bytes are left over;
-/// `NoMemory` where a growth was refused.
+/// `Refused` where the input is the body of no such message, as where bytes are left over;
+/// `NoMemory` where a growth was refused, which says nothing of the input.
 #[tactic(auto, unfolding(crate::specs::Message::message))]
 pub fn read_close(alloc: Global, input: &[u8]) -> Result<CloseRequest, ReadFault>
     requires { length input.now ≤ input_limit }

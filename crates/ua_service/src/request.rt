@@ -14,7 +14,7 @@ use std::alloc::Global;
 use ua_value::{NoMemory, NodeId, Parts, ReadFault, Sink, Wire, read_whole};
 
 /// What a client asks for over an open channel.
-#[derive(Drop)]
+#[derive(Debug, Drop)]
 pub enum Request {
     /// For the servers that are known (OPC 10000-4, 5.5.2).
     FindServers(FindServersRequest),
@@ -26,7 +26,7 @@ pub enum Request {
 
 impl Request {
     /// The request of another service under this id. `None` exactly for the ids of the requests
-    /// that have a case of their own: the numbers 422 and 428 in namespace 0. Takes no memory.
+    /// that have a case of their own: the numbers 422 and 428 in namespace 0. It takes no memory.
     #[tactic(auto, using(crate::specs::MessageLaws::unlike, crate::specs::MessageLaws::known))]
     pub fn other(type_id: NodeId, header: RequestHeader, rest: Vec<u8>) -> Option<Request>
         ensures made { IfSome result (λ m. m ≡ Request.Other (record { type_id = type_id; header = header; rest = rest.items })) }
@@ -38,7 +38,11 @@ impl Request {
         Some(Request::Other(OtherRequest::new(type_id, header, rest)))
     }
 
-    /// An equal request.
+    /// An equal request, with memory of its own.
+    ///
+    /// # Errors
+    ///
+    /// `NoMemory` where a growth was refused.
     pub fn copy(&self) -> Result<Request, NoMemory>
         ensures { IfOk result (λ m. m ≡ self.now) }
     {

@@ -11,7 +11,7 @@ use std::alloc::Global;
 use ua_value::{NoMemory, NodeId, Parts, ReadFault, Sink, Wire, read_whole};
 
 /// What a server answers over an open channel.
-#[derive(Drop)]
+#[derive(Debug, Drop)]
 pub enum Response {
     /// The servers that were asked for (OPC 10000-4, 5.5.2).
     FindServers(FindServersResponse),

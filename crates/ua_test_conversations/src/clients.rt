@@ -13,7 +13,7 @@ use ua_disco::{DEFAULT, Settings};
 use ua_service::{Request, read_request};
 use ua_value::{UaString, let_go};
 
-const CONFIG: ClientConfig = ClientConfig {
+pub(crate) const CONFIG: ClientConfig = ClientConfig {
     buffer: 65535,
     max_message: 1_048_576,
     max_chunks: 64,
@@ -41,7 +41,7 @@ fn is_answer(answer: &Answer, id: u32, aborted: Option<u32>) -> bool {
 }
 
 /// Whether the piece brings the answers with these ids, each aborted with this status, if any.
-fn brings(client: &mut Client, piece: &[u8], ids: &[u32], aborted: Option<u32>) -> bool {
+pub(crate) fn brings(client: &mut Client, piece: &[u8], ids: &[u32], aborted: Option<u32>) -> bool {
     let Ok(answers) = client.feed(0, piece) else {
         return false;
     };
@@ -83,12 +83,12 @@ fn asks(alloc: Global, client: &mut Client, part_limit: u32) -> Option<Result<u3
     }
 }
 
-fn greets(alloc: Global) -> Option<Client> {
+pub(crate) fn greets(alloc: Global) -> Option<Client> {
     let url = UaString::null();
     Client::new(alloc, CONFIG, &url, 1).ok()
 }
 
-fn opens(client: &mut Client) -> bool {
+pub(crate) fn opens(client: &mut Client) -> bool {
     says(client, GREETING)
         && brings(client, ACKNOWLEDGE, &[], None)
         && says(client, OPEN_REQUEST)
@@ -96,11 +96,16 @@ fn opens(client: &mut Client) -> bool {
         && says(client, b"")
 }
 
-fn is_asked(alloc: Global, client: &mut Client, part_limit: u32, id: u32) -> bool {
+pub(crate) fn is_asked(alloc: Global, client: &mut Client, part_limit: u32, id: u32) -> bool {
     asks(alloc, client, part_limit) == Some(Ok(id))
 }
 
-fn is_refused(alloc: Global, client: &mut Client, part_limit: u32, fault: AskFault) -> bool {
+pub(crate) fn is_refused(
+    alloc: Global,
+    client: &mut Client,
+    part_limit: u32,
+    fault: AskFault,
+) -> bool {
     asks(alloc, client, part_limit) == Some(Err(fault))
 }
 

@@ -25,6 +25,14 @@ mod conversations;
 #[cfg(test)]
 mod embedding;
 #[cfg(test)]
+mod hostile;
+#[cfg(test)]
+mod hostile_answers;
+#[cfg(test)]
+mod hostile_openings;
+#[cfg(test)]
+mod hostile_servers;
+#[cfg(test)]
 mod keys;
 #[cfg(test)]
 mod limits;
@@ -37,9 +45,17 @@ mod memory;
 #[cfg(test)]
 mod refusals;
 #[cfg(test)]
+mod rounds;
+#[cfg(test)]
 mod rows;
 #[cfg(test)]
+mod schedules;
+#[cfg(test)]
 mod settings;
+#[cfg(test)]
+mod stories;
+#[cfg(test)]
+mod telling;
 #[cfg(test)]
 mod tokens;
 #[cfg(test)]

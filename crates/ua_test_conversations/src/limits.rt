@@ -12,7 +12,11 @@ use ua_conn::End;
 use ua_disco::DEFAULT;
 
 /// The message in chunks of at most so many bytes of it each, from number 2 on, under request id 2 and token 1.
-fn chunks_of(alloc: Global, body: &[u8], part_limit: usize) -> Result<Vec<u8>, AllocError> {
+pub(crate) fn chunks_of(
+    alloc: Global,
+    body: &[u8],
+    part_limit: usize,
+) -> Result<Vec<u8>, AllocError> {
     let mut all = Vec::new(alloc);
     let mut rest = body;
     for sequence in 2..100 {
@@ -61,7 +65,7 @@ id = \"0\"
 ";
 
 /// The settings by default with their endpoint a hundred times.
-fn hundred_endpoints(alloc: Global) -> Result<String, AllocError> {
+pub(crate) fn hundred_endpoints(alloc: Global) -> Result<String, AllocError> {
     let mut text = String::from_str(alloc, DEFAULT)?;
     for _ in 1..100 {
         text.push_str(ENDPOINT)?;
@@ -80,13 +84,13 @@ fn hundred_found(alloc: Global) -> Result<Vec<u8>, AllocError> {
 }
 
 /// The answer in chunks of 8192, 8192, 8192 and 1552 bytes.
-fn four_chunks(alloc: Global) -> Result<Vec<u8>, AllocError> {
+pub(crate) fn four_chunks(alloc: Global) -> Result<Vec<u8>, AllocError> {
     let body = hundred_found(alloc)?;
     chunks_of(alloc, body.as_slice(), 8168)
 }
 
 /// A Hello with buffers of 8192 bytes, and its Acknowledge; and one that takes no more than three chunks.
-const SMALL: &[(usize, &[u8])] = &[(12, b"\0\x20\0\0\0\x20")];
+pub(crate) const SMALL: &[(usize, &[u8])] = &[(12, b"\0\x20\0\0\0\x20")];
 
 const SMALL_AND_FEW: &[(usize, &[u8])] = &[(12, b"\0\x20\0\0\0\x20"), (24, b"\x03")];
 

@@ -48,7 +48,7 @@ pub(crate) enum Piece {
     EmptyParts(u32),
 }
 
-fn put_changed(
+pub(crate) fn put_changed(
     alloc: Global,
     frame: &[u8],
     changes: &[(usize, &[u8])],

@@ -71,6 +71,10 @@ pub(crate) const SIGNED_REQUEST: &[u8] =
 pub(crate) const FIND_BODY: &[u8] =
     b"\x01\0\xA6\x01\0\0\0\0\0\0\0\0\0\0\x02\0\0\0\0\0\0\0\xFF\xFF\xFF\xFF\0\0\0\0\0\0\0\x18\0\0\0opc.tcp://localhost:4840\xFF\xFF\xFF\xFF\xFF\xFF\xFF\xFF";
 
+/// The body of the GetEndpoints request.
+pub(crate) const ENDPOINTS_BODY: &[u8] =
+    b"\x01\0\xAC\x01\0\0\0\0\0\0\0\0\0\0\x02\0\0\0\0\0\0\0\xFF\xFF\xFF\xFF\0\0\0\0\0\0\0\x18\0\0\0opc.tcp://localhost:4840\xFF\xFF\xFF\xFF\xFF\xFF\xFF\xFF";
+
 /// The body of the request of another service.
 pub(crate) const OTHER_BODY: &[u8] =
     b"\x01\0\xCD\x01\0\0\0\0\0\0\0\0\0\0\x02\0\0\0\0\0\0\0\xFF\xFF\xFF\xFF\0\0\0\0\0\0\0\xAA\xBB";

@@ -1,6 +1,7 @@
 //! Arrays: bytes and what they spell.
 
 use crate::spelling::{Shown, is_whole};
+use std::alloc::Global;
 use ua_value::{Array, UaString};
 
 /// The items of an array of numbers, or none.
@@ -51,4 +52,43 @@ fn arrays_of_numbers(rt: HostRuntime) {
 #[test]
 fn arrays_of_texts(rt: HostRuntime) {
     assert!(rt; is_whole::<Array<UaString>, Texts>(rt.alloc(), TEXTS, &Texts));
+}
+
+/// Whether the array has three texts, these.
+fn are_three(array: &Array<UaString>) -> bool {
+    match array.get() {
+        Some([first, second, third]) => {
+            first.get() == Some("en") && second.get() == Some("") && third.get() == Some("水")
+        }
+        _ => false,
+    }
+}
+
+fn texts_are_copied(alloc: Global) -> bool {
+    match Array::of_texts(alloc, &["en", "", "水"]) {
+        Ok(array) => are_three(&array),
+        Err(_) => false,
+    }
+}
+
+fn no_texts_are_an_empty_array(alloc: Global) -> bool {
+    match Array::of_texts(alloc, &[]) {
+        Ok(array) => matches!(array.get(), Some([])),
+        Err(_) => false,
+    }
+}
+
+fn text_is_copied(alloc: Global) -> bool {
+    match UaString::of_text(alloc, "水") {
+        Ok(text) => text.get() == Some("水"),
+        Err(_) => false,
+    }
+}
+
+#[test]
+fn lent_texts_are_copied(rt: HostRuntime) {
+    let alloc = rt.alloc();
+    assert!(rt; texts_are_copied(alloc));
+    assert!(rt; no_texts_are_an_empty_array(alloc));
+    assert!(rt; text_is_copied(alloc));
 }

@@ -21,6 +21,8 @@ mod frames;
 #[cfg(test)]
 mod given;
 #[cfg(test)]
+mod headers;
+#[cfg(test)]
 mod making;
 #[cfg(test)]
 mod memory;

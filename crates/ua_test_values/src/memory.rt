@@ -120,6 +120,21 @@ fn arrays_or_no_memory(rt: HostRuntime) {
     assert!(rt; is_full_or_no_memory::<Array<UaString>>(alloc, texts));
 }
 
+fn are_copied_or_no_memory(alloc: Global) -> bool {
+    match Array::of_texts(alloc, &["a", "bc"]) {
+        Ok(array) => {
+            let bytes: &[u8] = &[2, 0, 0, 0, 1, 0, 0, 0, 0x61, 2, 0, 0, 0, 0x62, 0x63];
+            is_written_or_no_memory(alloc, &array, bytes)
+        }
+        Err(_) => true,
+    }
+}
+
+#[test]
+fn lent_texts_or_no_memory(rt: HostRuntime) {
+    assert!(rt; are_copied_or_no_memory(rt.alloc()));
+}
+
 /// Whether each constructor keeps the three letters, or says that memory ran out.
 fn are_made_or_no_memory(alloc: Global) -> bool {
     (match UaString::new(alloc, "abc") {

@@ -4,4 +4,5 @@ pub mod Utf8
 pub mod Tested
 pub mod Cells
 pub mod Digits
+pub mod TextLengths
 mod Rows

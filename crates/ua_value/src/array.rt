@@ -20,8 +20,8 @@ use crate::wire::{Sink, Wire};
 use std::alloc::Global;
 use std::marker::Model;
 
-/// A list of at most 2147483647 items, whose spellings have at most 1152921504606846976 bytes together, or none. No list and the empty list are
-/// different values.
+/// A list of at most 2147483647 items, whose spellings have at most 1152921504606846976 bytes together, or none. No
+/// list and the empty list are different values.
 #[derive(Debug, Drop)]
 pub struct Array<T: Wire> {
     items: Option<Vec<T>>,
@@ -48,7 +48,7 @@ impl<T: Wire> Array<T> {
         Array { items: None }
     }
 
-    /// The items, if there is a list.
+    /// The items, or `None` where there is no list.
     pub fn get(&self) -> Option<&[T]>
         ensures { option_copied result ≡ self.now }
     {
@@ -58,8 +58,11 @@ impl<T: Wire> Array<T> {
         }
     }
 
-    /// The list of the items, which takes no memory. `TooLong` comes just where they are more than 2147483647, and no other fault comes; the items are
-    /// then dropped.
+    /// The list of the items, at most 2147483647 of them (OPC 10000-6, 5.2.5). It takes no memory.
+    ///
+    /// # Errors
+    ///
+    /// `TooLong` exactly where there are more; the items are then dropped. No other fault comes.
     pub fn new(items: Vec<T>) -> Result<Array<T>, ValueFault>
         requires { length (flat_map T.format.canon items.items) ≤ input_limit }
         ensures ok { IfOk result (λ v. v ≡ Some items.items) }
@@ -72,7 +75,7 @@ impl<T: Wire> Array<T> {
         Ok(Array { items: Some(items) })
     }
 
-    /// The list of the items, if there is one. It takes no memory.
+    /// The items, or `None` where there is no list. It takes no memory.
     pub fn into_vec(self) -> Option<Vec<T>>
         ensures { option_map (λ v. v.items) result ≡ self }
     {

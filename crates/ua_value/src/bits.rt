@@ -30,6 +30,7 @@ impl Wire for FloatBits {
         Ok(*self)
     }
 
+    #[inline(always)]
     fn read_front(alloc: Global, input: &[u8]) -> Result<(FloatBits, &[u8]), ReadFault> {
         let (bits, rest) = u32::read_front(alloc, input)?;
         Ok((FloatBits(bits), rest))
@@ -62,6 +63,7 @@ impl Wire for DoubleBits {
         Ok(*self)
     }
 
+    #[inline(always)]
     fn read_front(alloc: Global, input: &[u8]) -> Result<(DoubleBits, &[u8]), ReadFault> {
         let (bits, rest) = u64::read_front(alloc, input)?;
         Ok((DoubleBits(bits), rest))

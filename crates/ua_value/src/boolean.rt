@@ -28,6 +28,7 @@ impl Wire for bool {
         Ok(*self)
     }
 
+    #[inline(always)]
     fn read_front(_alloc: Global, input: &[u8]) -> Result<(bool, &[u8]), ReadFault> {
         match input {
             [byte, rest @ ..] => Ok((*byte != 0, rest)),

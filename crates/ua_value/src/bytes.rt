@@ -15,11 +15,12 @@ use crate::wire::{Sink, Wire, bytes_known};
 use std::alloc::Global;
 use std::marker::Model;
 
-/// The greatest length of a text, a byte string or an array: a count is a signed number of 32 bits (OPC 10000-6, 5.2.2.4, 5.2.5).
+/// The greatest length of a text, a byte string or an array: a count is a signed number of 32 bits (OPC 10000-6,
+/// 5.2.2.4, 5.2.5).
 pub const LONGEST: u32 = 2147483647;
 
-/// The ByteString at the front, lent from the bytes, and what follows it. `None` where no beginning of the bytes spells one: they end before it does,
-/// or its length is below -1.
+/// The ByteString at the front (OPC 10000-6, 5.2.2.7), lent from the bytes, and what follows it. `None` where no
+/// beginning of the bytes spells one: they end before it does, or its length is below -1.
 pub fn bytes_front(input: &[u8]) -> Option<(Option<&[u8]>, &[u8])>
     ensures front { option_map (λ p. (option_copied p.0, p.1.now)) result ≡ byte_string.grammar.front input.now }
     ensures shorter { IfSome result (λ p. length p.1.now ≤ length input.now) }
@@ -60,7 +61,11 @@ impl UaBytes {
         UaBytes { bytes: None }
     }
 
-    /// A copy of the bytes. `TooLong` comes just where they are more than 2147483647.
+    /// A copy of the bytes, at most [`LONGEST`] of them (OPC 10000-6, 5.2.2.7).
+    ///
+    /// # Errors
+    ///
+    /// `TooLong` exactly where there are more; else `NoMemory` where the room for the copy is refused.
     pub fn new(alloc: Global, bytes: &[u8]) -> Result<UaBytes, ValueFault>
         ensures ok { IfOk result (λ v. v ≡ Some bytes.now) }
         ensures too_long { IsErrOf result ValueFault.TooLong ↔ (longest < length bytes.now) }
@@ -73,8 +78,11 @@ impl UaBytes {
         })
     }
 
-    /// The bytes as they are, which takes no memory. `TooLong` comes just where they are more than 2147483647, and no other fault comes; the bytes are
-    /// then dropped.
+    /// The bytes as they are, at most [`LONGEST`] of them (OPC 10000-6, 5.2.2.7). It takes no memory.
+    ///
+    /// # Errors
+    ///
+    /// `TooLong` exactly where there are more; the bytes are then dropped. No other fault comes.
     pub fn from_vec(bytes: Vec<u8>) -> Result<UaBytes, ValueFault>
         ensures ok { IfOk result (λ v. v ≡ Some bytes.items) }
         ensures too_long { IsErrOf result ValueFault.TooLong ↔ (longest < length bytes.items) }
@@ -87,14 +95,14 @@ impl UaBytes {
         }
     }
 
-    /// The bytes, if there are any or it is empty. It takes no memory.
+    /// The bytes, or `None` where the byte string is none. It takes no memory.
     pub fn into_vec(self) -> Option<Vec<u8>>
         ensures { option_map (λ v. v.items) result ≡ self }
     {
         self.bytes
     }
 
-    /// The bytes, if there are any or it is empty.
+    /// The bytes, or `None` where the byte string is none.
     pub fn get(&self) -> Option<&[u8]>
         ensures { option_copied result ≡ self.now }
     {

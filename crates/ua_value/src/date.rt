@@ -30,6 +30,7 @@ impl Wire for DateTime {
         Ok(*self)
     }
 
+    #[inline(always)]
     fn read_front(alloc: Global, input: &[u8]) -> Result<(DateTime, &[u8]), ReadFault> {
         let (ticks, rest) = i64::read_front(alloc, input)?;
         Ok((DateTime(ticks), rest))

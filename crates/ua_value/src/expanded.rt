@@ -14,8 +14,8 @@ use crate::text::UaString;
 use crate::wire::{Sink, Wire};
 use std::alloc::Global;
 
-/// A node id, the URI of its namespace, which is null where it is absent, and the index of its server, which is 0 where it is absent. A null URI
-/// or an index 0 that is flagged reads as absent.
+/// A node id, the URI of its namespace, which is null where it is absent, and the index of its server, which is 0 where
+/// it is absent. A null URI or an index 0 that is flagged reads as absent.
 #[derive(Debug, PartialEq, Eq, Drop)]
 pub struct ExpandedNodeId {
     pub node: NodeId,

@@ -17,7 +17,11 @@ pub trait Fields: Sized + Drop {
     // that a field may take memory
     ghost Grows: { Type 0 };
 
-    /// The fields that the input begins with, and what follows them. `Refused` where no beginning of the input spells them; `NoMemory` only where a
+    /// The fields that the input begins with, and what follows them.
+    ///
+    /// # Errors
+    ///
+    /// `Refused` where no beginning of the input spells them; `NoMemory` where a growth was refused, and only where a
     /// field may take memory.
     fn read_fields(alloc: Global, input: &[u8]) -> Result<(Self, &[u8]), ReadFault>
         requires { length input.now ≤ input_limit }
@@ -54,7 +58,13 @@ impl<T: Wire, F: Fields> Fields for (T, F) {
     ghost laws = { lawful_pair T.format F.format T.laws F.laws };
 }
 
-/// A part that is there where it is flagged, and else is the absent value without a byte read.
+/// The part that the input begins with, where it is flagged, and what follows it; else the absent value, without a byte
+/// read.
+///
+/// # Errors
+///
+/// `Refused` where it is flagged, and no beginning of the input spells it; `NoMemory` where a growth was refused, and
+/// only where the part may take memory.
 pub fn read_part<T: Wire>(
     alloc: Global,
     flagged: bool,
@@ -78,7 +88,11 @@ pub trait Parts {
     // the bytes that are put
     ghost spelling: { Self → List ℕ };
 
-    /// Puts the fields. Where memory runs out a beginning of their bytes was put.
+    /// Puts the fields' bytes into `out`, one field after another.
+    ///
+    /// # Errors
+    ///
+    /// `NoMemory` where a growth was refused; a beginning of the bytes may have been put.
     fn emit_parts<S: Sink>(&self, out: &mut S) -> Result<(), NoMemory>
         ensures ok { OnOk result (S.contents out.new ≡ S.contents out.old ++ spelling self.now) }
         ensures err { OnErr result (AppendsPart (S.contents out.old) (S.contents out.new) (spelling self.now)) };
@@ -102,7 +116,11 @@ impl<'a, T: Wire, P: Parts> Parts for (&'a T, P) {
     }
 }
 
-/// Copies of two values, or none where memory runs out.
+/// Copies of two values.
+///
+/// # Errors
+///
+/// `NoMemory` where a growth was refused, and only where one of the two may take memory.
 pub fn copy_two<A: Wire, B: Wire>(first: &A, second: &B) -> Result<(A, B), NoMemory>
     ensures equal { IfOk result (λ c. c ≡ (first.now, second.now)) }
     ensures memory { IfErr result (λ _. A.Grows ⊎ B.Grows) }
@@ -112,7 +130,11 @@ pub fn copy_two<A: Wire, B: Wire>(first: &A, second: &B) -> Result<(A, B), NoMem
     Ok((first, second))
 }
 
-/// Copies of three values, or none where memory runs out.
+/// Copies of three values.
+///
+/// # Errors
+///
+/// `NoMemory` where a growth was refused, and only where one of the three may take memory.
 pub fn copy_three<A: Wire, B: Wire, C: Wire>(
     first: &A,
     second: &B,
@@ -126,7 +148,12 @@ pub fn copy_three<A: Wire, B: Wire, C: Wire>(
     Ok((first, second, third))
 }
 
-/// The value that the whole bytes spell. `Refused` where they spell none, or where bytes are left over.
+/// The value that the whole input spells.
+///
+/// # Errors
+///
+/// `Refused` where the input spells none, as where bytes are left over; `NoMemory` where a growth was refused, and only
+/// where the value may take memory.
 pub fn read_whole<T: Fields>(alloc: Global, input: &[u8]) -> Result<T, ReadFault>
     requires { length input.now ≤ input_limit }
     ensures gives { Gives (λ v. v) result (only T.format.grammar input.now) }

@@ -93,6 +93,10 @@ impl Wire for Guid {
 
 impl Guid {
     /// The text with hyphens, in lower case, as `72962b91-fa75-4ae6-8d28-b404dc7daf63` (OPC 10000-6, 5.1.3).
+    ///
+    /// # Errors
+    ///
+    /// `NoMemory` where the room for the text is refused.
     pub fn text(&self, alloc: Global) -> Result<String, NoMemory>
         ensures { IfOk result (λ t. string_bytes t ≡ hyphenated_text lower (digits_of self.now)) }
     {

@@ -29,6 +29,7 @@ impl Wire for i8 {
         Ok(*self)
     }
 
+    #[inline(always)]
     fn read_front(_alloc: Global, input: &[u8]) -> Result<(i8, &[u8]), ReadFault> {
         match input {
             [byte, rest @ ..] => Ok((u8::from_le_bytes([*byte]).cast_signed(), rest)),
@@ -59,6 +60,7 @@ impl Wire for i16 {
         Ok(*self)
     }
 
+    #[inline(always)]
     fn read_front(_alloc: Global, input: &[u8]) -> Result<(i16, &[u8]), ReadFault> {
         match input {
             [a, b, rest @ ..] => Ok((u16::from_le_bytes([*a, *b]).cast_signed(), rest)),
@@ -89,6 +91,7 @@ impl Wire for i32 {
         Ok(*self)
     }
 
+    #[inline(always)]
     fn read_front(_alloc: Global, input: &[u8]) -> Result<(i32, &[u8]), ReadFault> {
         match input {
             [a, b, c, d, rest @ ..] => Ok((
@@ -122,6 +125,7 @@ impl Wire for i64 {
         Ok(*self)
     }
 
+    #[inline(always)]
     fn read_front(_alloc: Global, input: &[u8]) -> Result<(i64, &[u8]), ReadFault> {
         match input {
             [a, b, c, d, e, f, g, h, rest @ ..] => Ok((

@@ -1,11 +1,13 @@
-//! What holds of the spellings of every type. A caller names a law at its type and has the fact in its proof; nothing runs.
+//! What holds of the spellings of every type. A caller names a law at its type and has the fact in its proof; nothing
+//! runs.
 
 ghost use Rattle.ua_value.specs.Format.{IsDistinct, IsLawful};
 ghost use Rattle.ua_value.specs.Laws.{BeginsNoOther, HasOneValue, HasBytes, IsCanonical, IsShortest, ReadsBack};
 
 use crate::wire::Wire;
 
-/// Where two spellings begin the same bytes, they are one, and so are their values; and the format has all the laws of `Wire`.
+/// Where two spellings begin the same bytes, they are one, and so are their values; and the format has all the laws of
+/// `Wire`.
 pub fn spellings_are_distinct<T: Wire>()
     ensures distinct { IsDistinct T.format.grammar }
     ensures lawful { IsLawful T.format }

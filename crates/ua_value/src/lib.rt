@@ -1,9 +1,10 @@
 //! The plain built-in types of OPC UA and their spellings in OPC UA Binary (OPC 10000-6, 5.2.2 and 5.2.5).
 //!
-//! A type has a format: which bytes spell which value, the spelling that is written, and which values there are. Its [`Wire`] reads and writes by
-//! that format: `read` takes the one spelling that the bytes begin with, or shows that they begin with none, and `write` appends the canonical
-//! spelling or changes nothing. Some values have several spellings (three forms of a numeric node id, 255 bytes for true, flagged parts that are
-//! null); all of them are read, and the shortest is written.
+//! A type has a format: which bytes spell which value, the spelling that is written, and which values there are. Its
+//! [`Wire`] reads and writes by that format: `read` takes the one spelling that the bytes begin with, or shows that
+//! they begin with none, and `write` appends the canonical spelling or changes nothing. Some values have several
+//! spellings (three forms of a numeric node id, 255 bytes for true, flagged parts that are null); all of them are read,
+//! and the shortest is written.
 //!
 //! | Type | Clause | Format |
 //! |---|---|---|
@@ -23,8 +24,8 @@
 //! | [`LocalizedText`] | 5.2.2.14 | `Localized.localized_text` |
 //! | [`Array`] | 5.2.5 | `Array.array` of the items' format |
 //!
-//! A structure of several fields is a format made of its fields' by `pair` and `by` (specs/Sequence.antt), its laws in one expression, and an
-//! `impl Wire` over [`Fields`] and [`Parts`]: `QualifiedName` shows it.
+//! A structure of several fields is a format made of its fields' by `pair` and `by` (specs/Sequence.antt), its laws in
+//! one expression, and an `impl Wire` over [`Fields`] and [`Parts`]: `QualifiedName` shows it.
 #![tactic(auto)]
 
 mod array;
@@ -45,6 +46,7 @@ mod node;
 mod number;
 mod status;
 mod text;
+mod texts;
 mod wire;
 mod xml;
 
@@ -63,5 +65,6 @@ pub use node::{Identifier, NodeId};
 pub use number::{front_u32, peek_u32};
 pub use status::StatusCode;
 pub use text::{UaString, peek_string, string_front};
+pub use texts::MOST_TEXTS;
 pub use wire::{Sink, Wire};
 pub use xml::XmlElement;

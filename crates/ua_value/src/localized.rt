@@ -12,7 +12,8 @@ use crate::text::UaString;
 use crate::wire::{Sink, Wire};
 use std::alloc::Global;
 
-/// A text and the locale of its language, as `en-US`. A part that is absent is null; a part that is flagged and null reads as absent.
+/// A text and the locale of its language, as `en-US`. A part that is absent is null; a part that is flagged and null
+/// reads as absent.
 #[derive(Debug, PartialEq, Eq, Drop)]
 pub struct LocalizedText {
     pub locale: UaString,

@@ -1,5 +1,5 @@
-//! Node ids (OPC 10000-6, 5.2.2.9): an encoding byte, which says how the rest is spelled. All three forms of a number are read, and the shortest is
-//! written.
+//! Node ids (OPC 10000-6, 5.2.2.9): an encoding byte, which says how the rest is spelled. All three forms of a number
+//! are read, and the shortest is written.
 
 ghost use Rattle.std.specs.Prelude.{◌≡◌, ◌≤◌, ◌<◌, ◌++◌, length, IfOk, OnOk, OnErr};
 ghost use Rattle.ua_value.specs.Format.{AppendsPart, Gives, input_limit};
@@ -89,7 +89,7 @@ impl Wire for NodeId {
 }
 
 impl NodeId {
-    /// The id that is null: the number 0 in namespace 0 (OPC 10000-3 8.2.4).
+    /// The id that is null: the number 0 in namespace 0 (OPC 10000-3, 8.2.4). It takes no memory.
     pub fn null() -> NodeId
         ensures namespace { result.namespace ≡ 0 }
         ensures identifier { result.identifier ≡ Identifier.Numeric 0 }
@@ -105,7 +105,8 @@ impl NodeId {
         node(namespace, Identifier::Numeric(id))
     }
 
-    /// Puts the canonical spelling with its encoding byte raised by the flags, or a beginning of it where memory runs out.
+    /// Puts the canonical spelling with its encoding byte raised by the flags, or a beginning of it where memory runs
+    /// out.
     #[tactic(auto, unfolding(crate::specs::Node::node_id, crate::specs::Number::unsigned, crate::specs::Expanded::raised))]
     pub(crate) fn emit_raised<S: Sink>(&self, flags: u8, out: &mut S) -> Result<(), NoMemory>
         requires { flags < 251 }

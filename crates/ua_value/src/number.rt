@@ -11,7 +11,8 @@ use crate::fault::{NoMemory, ReadFault};
 use crate::wire::{Sink, Wire};
 use std::alloc::Global;
 
-/// The UInt32 at the front, or `None` where there are fewer than four bytes. What follows it is not looked at.
+/// The UInt32 at the front (OPC 10000-6, 5.2.2.2), or `None` where there are fewer than four bytes. What follows it is
+/// not looked at.
 pub fn peek_u32(input: &[u8]) -> Option<u32>
     ensures spelled { Peeks (unsigned w32) input.now (option_map (λ n. (n, 4)) result) }
     ensures front { option_map (λ n. (n, drop 4 input.now)) result ≡ (unsigned w32).grammar.front input.now }
@@ -22,7 +23,8 @@ pub fn peek_u32(input: &[u8]) -> Option<u32>
     }
 }
 
-/// The UInt32 at the front, and what follows it. `None` where there are less than four bytes.
+/// The UInt32 at the front (OPC 10000-6, 5.2.2.2), and what follows it. `None` where there are fewer than four bytes.
+#[inline(always)]
 pub fn front_u32(input: &[u8]) -> Option<(u32, &[u8])>
     ensures front { option_map (λ p. (p.0, p.1.now)) result ≡ (unsigned w32).grammar.front input.now }
     ensures shorter { IfSome result (λ p. length p.1.now ≤ length input.now) }
@@ -53,6 +55,7 @@ impl Wire for u8 {
         Ok(*self)
     }
 
+    #[inline(always)]
     fn read_front(_alloc: Global, input: &[u8]) -> Result<(u8, &[u8]), ReadFault> {
         match input {
             [byte, rest @ ..] => Ok((*byte, rest)),
@@ -83,6 +86,7 @@ impl Wire for u16 {
         Ok(*self)
     }
 
+    #[inline(always)]
     fn read_front(_alloc: Global, input: &[u8]) -> Result<(u16, &[u8]), ReadFault> {
         match input {
             [a, b, rest @ ..] => Ok((u16::from_le_bytes([*a, *b]), rest)),
@@ -113,6 +117,7 @@ impl Wire for u32 {
         Ok(*self)
     }
 
+    #[inline(always)]
     fn read_front(_alloc: Global, input: &[u8]) -> Result<(u32, &[u8]), ReadFault> {
         match input {
             [a, b, c, d, rest @ ..] => Ok((u32::from_le_bytes([*a, *b, *c, *d]), rest)),
@@ -143,6 +148,7 @@ impl Wire for u64 {
         Ok(*self)
     }
 
+    #[inline(always)]
     fn read_front(_alloc: Global, input: &[u8]) -> Result<(u64, &[u8]), ReadFault> {
         match input {
             [a, b, c, d, e, f, g, h, rest @ ..] => Ok((

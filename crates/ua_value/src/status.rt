@@ -27,7 +27,8 @@ impl StatusCode {
         0x4000_0000 <= self.0 && self.0 < 0x8000_0000
     }
 
-    /// Whether the severity is bad: bit 31 is 1. A severity of two ones is reserved, and counts as bad (OPC 10000-4, 7.39.1).
+    /// Whether the severity is bad: bit 31 is 1. A severity of two ones is reserved, and counts as bad (OPC 10000-4,
+    /// 7.39.1).
     pub fn is_bad(self) -> bool
         ensures { result ≡ nat_le 0x8000_0000 self.0 }
     {
@@ -35,7 +36,8 @@ impl StatusCode {
     }
 }
 
-/// Eight hex digits in upper case, and behind a blank the name in OPC 10000-4, 7.39.2 or OPC 10000-6 annex A where it is a status that this stack uses.
+/// Eight hex digits in upper case, and behind a blank the name in OPC 10000-4, 7.39.2 or OPC 10000-6 annex A where it
+/// is a status that this stack uses.
 #[tactic(auto, using(crate::proofs::Digits::eight_digits))]
 impl fmt::Display for StatusCode {
     ghost output = { λ s. Some (status_text s.0) };
@@ -94,6 +96,7 @@ impl Wire for StatusCode {
         Ok(*self)
     }
 
+    #[inline(always)]
     fn read_front(alloc: Global, input: &[u8]) -> Result<(StatusCode, &[u8]), ReadFault> {
         let (code, rest) = u32::read_front(alloc, input)?;
         Ok((StatusCode(code), rest))

@@ -44,8 +44,8 @@ fn text_of(bytes: &[u8]) -> Option<&str>
     }
 }
 
-/// The String at the front, lent from the bytes, and what follows it. `None` where no beginning of the bytes spells one: they end before it does, its
-/// length is below -1, or it is not UTF-8.
+/// The String at the front (OPC 10000-6, 5.2.2.4), lent from the bytes, and what follows it. `None` where no beginning
+/// of the bytes spells one: they end before it does, its length is below -1, or it is not UTF-8.
 #[tactic(auto, using(crate::proofs::Tested::utf8_tested))]
 pub fn string_front(input: &[u8]) -> Option<(Option<&str>, &[u8])>
     ensures front { option_map (λ p. (option_copied p.0, p.1.now)) result ≡ string.grammar.front input.now }
@@ -61,8 +61,8 @@ pub fn string_front(input: &[u8]) -> Option<(Option<&str>, &[u8])>
     }
 }
 
-/// The String at the front, as it lies in the bytes, and how many of them spell it. `None` where no beginning of the bytes spells one: they end
-/// before it does, its length is below -1, or it is not UTF-8.
+/// The String at the front (OPC 10000-6, 5.2.2.4), lent from the bytes, and how many of them spell it. `None` where no
+/// beginning of the bytes spells one: they end before it does, its length is below -1, or it is not UTF-8.
 pub fn peek_string(input: &[u8]) -> Option<(Option<&str>, usize)>
     ensures { Peeks string input.now (option_map (λ p. (option_copied p.0, p.1)) result) }
 {
@@ -80,7 +80,11 @@ impl UaString {
         UaString { text: None }
     }
 
-    /// A copy of the text. `TooLong` comes just where it has more than 2147483647 bytes.
+    /// A copy of the text, which has at most [`LONGEST`] bytes (OPC 10000-6, 5.2.2.4).
+    ///
+    /// # Errors
+    ///
+    /// `TooLong` exactly where it has more; else `NoMemory` where the room for the copy is refused.
     pub fn new(alloc: Global, text: &str) -> Result<UaString, ValueFault>
         ensures ok { IfOk result (λ v. v ≡ Some text.now) }
         ensures too_long { IsErrOf result ValueFault.TooLong ↔ (longest < length text.now) }
@@ -93,8 +97,11 @@ impl UaString {
         })
     }
 
-    /// The text as it is, which takes no memory. `TooLong` comes just where it has more than 2147483647 bytes, and no other fault comes; the text is
-    /// then dropped.
+    /// The text as it is, which has at most [`LONGEST`] bytes (OPC 10000-6, 5.2.2.4). It takes no memory.
+    ///
+    /// # Errors
+    ///
+    /// `TooLong` exactly where it has more; the text is then dropped. No other fault comes.
     pub fn from_string(text: String) -> Result<UaString, ValueFault>
         ensures ok { IfOk result (λ v. v ≡ Some (string_bytes text)) }
         ensures too_long { IsErrOf result ValueFault.TooLong ↔ (longest < length (string_bytes text)) }
@@ -107,14 +114,14 @@ impl UaString {
         }
     }
 
-    /// The text, if there is one. It takes no memory.
+    /// The text, or `None` where there is none. It takes no memory.
     pub fn into_string(self) -> Option<String>
         ensures { option_map string_bytes result ≡ self }
     {
         self.text
     }
 
-    /// The text, if there is one.
+    /// The text, or `None` where there is none.
     pub fn get(&self) -> Option<&str>
         ensures { option_copied result ≡ self.now }
     {

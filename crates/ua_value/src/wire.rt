@@ -11,7 +11,11 @@ pub trait Sink {
     // what was put so far
     ghost contents: { Self → List ℕ };
 
-    /// Appends the bytes. Where memory runs out it changes nothing.
+    /// Appends the bytes.
+    ///
+    /// # Errors
+    ///
+    /// `NoMemory` where a growth was refused; nothing has changed then.
     fn put(&mut self, bytes: &[u8]) -> Result<(), NoMemory>
         ensures { contents self.new ≡ (if is_ok result then contents self.old ++ bytes.now else contents self.old) };
 }
@@ -24,7 +28,7 @@ impl Sink for Vec<u8> {
     }
 }
 
-/// A type whose values are spelled as bytes, by its format.
+/// A type whose values are spelled as bytes, by its format (OPC 10000-6, 5.2).
 pub trait Wire: Sized + Drop {
     // which bytes spell which value, which spelling is written, and which values there are
     ghost format: { Format Self };
@@ -41,12 +45,20 @@ pub trait Wire: Sized + Drop {
         ensures value { format.IsValue self.now }
         ensures bound { result ≤ most };
 
-    /// Puts the canonical spelling. Where memory runs out a beginning of it was put.
+    /// Puts the canonical spelling into `out`.
+    ///
+    /// # Errors
+    ///
+    /// `NoMemory` where a growth was refused; a beginning of the spelling may have been put.
     fn emit<S: Sink>(&self, out: &mut S) -> Result<(), NoMemory>
         ensures ok { OnOk result (S.contents out.new ≡ S.contents out.old ++ format.canon self.now) }
         ensures err { OnErr result (AppendsPart (S.contents out.old) (S.contents out.new) (format.canon self.now)) };
 
-    /// Appends the canonical spelling. Where memory runs out `out` is unchanged. The room for all of it is asked for once, before the first byte.
+    /// Appends the canonical spelling. The room for all of it is asked for once, before the first byte.
+    ///
+    /// # Errors
+    ///
+    /// `NoMemory` where a growth was refused; `out` is then unchanged.
     fn write(&self, out: &mut Vec<u8>) -> Result<(), NoMemory>
         ensures { out.new.items ≡ (if is_ok result then out.old.items ++ format.canon self.now else out.old.items) }
     {
@@ -61,12 +73,20 @@ pub trait Wire: Sized + Drop {
         }
     }
 
-    /// An equal value, with memory of its own. It fails only where the type's values may take memory.
+    /// An equal value, with memory of its own.
+    ///
+    /// # Errors
+    ///
+    /// `NoMemory` where a growth was refused, and only where the type's values may take memory.
     fn copy(&self) -> Result<Self, NoMemory>
         ensures equal { IfOk result (λ v. v ≡ self.now) }
         ensures memory { IfErr result (λ _. Grows) };
 
-    /// The value that the input begins with, and what follows it. `Refused` where no beginning of the input spells a value. `NoMemory` comes only where
+    /// The value that the input begins with, and what follows it.
+    ///
+    /// # Errors
+    ///
+    /// `Refused` where no beginning of the input spells a value; `NoMemory` where a growth was refused, and only where
     /// the type's values may take memory.
     fn read_front(alloc: Global, input: &[u8]) -> Result<(Self, &[u8]), ReadFault>
         requires { length input.now ≤ input_limit }
@@ -74,8 +94,12 @@ pub trait Wire: Sized + Drop {
         ensures shorter { IfOk result (λ x. length x.1.now ≤ length input.now) }
         ensures memory { IfErr result (λ e. e ≡ ReadFault.NoMemory → Grows) };
 
-    /// The value that the input begins with, and how many bytes spell it. `Refused` where no beginning of the input spells a value; `NoMemory` only
-    /// where the type's values may take memory. Nothing is copied but what the value keeps.
+    /// The value that the input begins with, and how many bytes spell it. Nothing is copied but what the value keeps.
+    ///
+    /// # Errors
+    ///
+    /// `Refused` where no beginning of the input spells a value; `NoMemory` where a growth was refused, and only where
+    /// the type's values may take memory. After `NoMemory` the input may spell a value or not.
     fn read(alloc: Global, input: &[u8]) -> Result<(Self, usize), ReadFault>
         requires { length input.now ≤ input_limit }
         ensures reads { Reads format input.now result }

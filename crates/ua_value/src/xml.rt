@@ -13,7 +13,8 @@ use crate::wire::{Sink, Wire};
 use std::alloc::Global;
 use std::marker::Model;
 
-/// The text of an XML element, of at most 2147483647 bytes, or none. It is kept as it came: that it is XML is not checked.
+/// The text of an XML element, of at most 2147483647 bytes, or none. It is kept as it came: that it is XML is not
+/// checked.
 #[derive(Debug, Drop)]
 pub struct XmlElement {
     text: UaString,
@@ -37,7 +38,11 @@ impl XmlElement {
         }
     }
 
-    /// A copy of the text. `TooLong` comes just where it has more than 2147483647 bytes.
+    /// A copy of the text, which has at most 2147483647 bytes (OPC 10000-6, 5.2.2.8).
+    ///
+    /// # Errors
+    ///
+    /// `TooLong` exactly where it has more; else `NoMemory` where the room for the copy is refused.
     pub fn new(alloc: Global, text: &str) -> Result<XmlElement, ValueFault>
         ensures ok { IfOk result (λ v. v ≡ Some text.now) }
         ensures too_long { IsErrOf result ValueFault.TooLong ↔ (longest < length text.now) }
@@ -48,8 +53,11 @@ impl XmlElement {
         }
     }
 
-    /// The text as it is, which takes no memory. `TooLong` comes just where it has more than 2147483647 bytes, and no other fault comes; the text is
-    /// then dropped.
+    /// The text as it is, which has at most 2147483647 bytes (OPC 10000-6, 5.2.2.8). It takes no memory.
+    ///
+    /// # Errors
+    ///
+    /// `TooLong` exactly where it has more; the text is then dropped. No other fault comes.
     pub fn from_string(text: String) -> Result<XmlElement, ValueFault>
         ensures ok { IfOk result (λ v. v ≡ Some (string_bytes text)) }
         ensures too_long { IsErrOf result ValueFault.TooLong ↔ (longest < length (string_bytes text)) }
@@ -61,14 +69,14 @@ impl XmlElement {
         }
     }
 
-    /// The text, if there is one. It takes no memory.
+    /// The text, or `None` where there is none. It takes no memory.
     pub fn into_string(self) -> Option<String>
         ensures { option_map string_bytes result ≡ self }
     {
         self.text.into_string()
     }
 
-    /// The text, if there is one.
+    /// The text, or `None` where there is none.
     pub fn get(&self) -> Option<&str>
         ensures { option_copied result ≡ self.now }
     {

@@ -58,6 +58,10 @@ fn copy_items(items: &Vec<Element>) -> Result<Vec<Element>, NoMemory>
 
 impl Element {
     /// An equal value, with memory of its own.
+    ///
+    /// # Errors
+    ///
+    /// `NoMemory` where a growth was refused.
     pub fn copy(&self) -> Result<Element, NoMemory>
         ensures { IfOk result (λ e. element e ≡ element self.now) }
     {
@@ -65,7 +69,8 @@ impl Element {
     }
 }
 
-/// The same of a value that holds no other one. Its frame is apart from those of the recursion, so a copy of what is 100 deep needs little stack.
+/// The same of a value that holds no other one. Its frame is apart from those of the recursion, so a copy of what is
+/// 100 deep needs little stack.
 #[inline(never)]
 fn copy_plain(item: &Element) -> Result<Element, NoMemory>
     requires { HoldsNone (element item.now) }

@@ -196,13 +196,13 @@ impl Wire for DiagnosticInfo {
 }
 
 impl DiagnosticInfo {
-    /// The one with these parts, around `inner` where there is one. A null `additional_info` is an
-    /// absent one.
+    /// The one with these parts, around `inner` where there is one (OPC 10000-6, 5.2.2.12). A null
+    /// `additional_info` is an absent one.
     ///
     /// # Errors
     ///
-    /// `TooDeep` exactly where `inner` is nested 100 deep already; `NoMemory` where the room for
-    /// `inner` is refused.
+    /// `TooDeep` exactly where `inner` is nested 100 deep already; else `NoMemory` where the room
+    /// for `inner` is refused. All parts are then dropped. Without `inner` no fault comes.
     pub fn new(
         alloc: Global,
         symbolic_id: Option<i32>,

@@ -103,8 +103,8 @@ fn flat<T: Wire>(value: &T) -> u8
     0
 }
 
-/// The value of a plain kind at the front, and what follows it; none of another kind. Its frame is apart from those of the recursion, so that what is
-/// 100 deep is read on little stack.
+/// The value of a plain kind at the front, and what follows it; none of another kind. Its frame is apart from those of
+/// the recursion, so that what is 100 deep is read on little stack.
 #[inline(never)]
 pub(crate) fn leaf_front(
     alloc: Global,

@@ -94,7 +94,7 @@ impl Kind {
         }
     }
 
-    /// The kind's number, 1 to 25, as it stands in the first byte of a Variant.
+    /// The kind's number, 1 to 25, as it stands in the first byte of a Variant (OPC 10000-6, 5.2.2.16).
     pub fn number(self) -> u8
         ensures number { result ≡ kind_number (kind_of self) }
         ensures most { result ≤ 25 }

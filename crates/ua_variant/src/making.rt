@@ -160,13 +160,13 @@ fn kept(tens: Option<u16>) -> Option<Picoseconds>
 }
 
 impl DataValue {
-    /// A value with its status and its moments, each where there is one, in the order of their bytes
-    /// (OPC 10000-6, 5.2.2.17). Picoseconds are in steps of 10, at most 9999.
+    /// A value with its status and its moments, each where there is one, in the order of their
+    /// bytes (OPC 10000-6, 5.2.2.17). Picoseconds are in steps of 10, at most 9999.
     ///
     /// # Errors
     ///
-    /// `TooDeep` exactly where `value` is nested 100 deep already; `NoMemory` where the room for
-    /// `value` is refused. The value is then dropped.
+    /// `TooDeep` exactly where `value` is nested 100 deep already; else `NoMemory` where the room
+    /// for `value` is refused. The value is then dropped. Without `value` no fault comes.
     pub fn new(
         alloc: Global,
         value: Option<Variant>,

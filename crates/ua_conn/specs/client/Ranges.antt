@@ -24,12 +24,14 @@ pub record IsHalf (config : ClientConfig) (half : Gathered) : Type 0 where
   pub short : half.max_message < 2 ^ 32
   pub bytes : length (body_of half.half) ≤ half.max_message
 
-pub record IsRunning (config : ClientConfig) (ack : Option Ack) (half : Gathered) (next : ℕ) : Type 0 where
+-- There is no other part, as `alone` says.
+pub record IsRunning (config : ClientConfig) (ack : Option Ack) (half : Gathered) (next : ℕ) (alone : Type 0) : Type 0 where
   pub buffer : IsBuffer config.buffer
   pub accepted : IfSome ack IsAccepted
   pub frames : IfSome ack (λ a. a.send ≤ config.buffer)
   pub between : IsHalf config half
   pub number : IsNumber next
+  pub all : alone
 
 -- what its parts say of the frames before
 abbrev pub client_known_of : Option Ack → Shown → Option Half → ClientKnown

@@ -23,14 +23,15 @@ pub record IsBetween (limits : Limits) (half : Gathered) : Type 0 where
   pub bytes : length (body_of half.half) ≤ half.max_message
 
 -- The frames that the client takes hold a header, the numbers of a chunk and a part of an answer, and those that it
--- sends fit the server's buffer.
-pub record IsConnection (limits : Limits) (channel id : ℕ) (agreed : Option Agreed) (half : Gathered) (next : ℕ) : Type 0 where
+-- sends fit the server's buffer. There is no other part, as `alone` says.
+pub record IsConnection (limits : Limits) (channel id : ℕ) (agreed : Option Agreed) (half : Gathered) (next : ℕ) (alone : Type 0) : Type 0 where
   pub same : channel ≡ id
   pub buffer : IsBuffer limits.receive
   pub receive : IfSome agreed (λ a. a.ack.receive ≤ limits.receive)
   pub send : IfSome agreed (λ a. IsBuffer a.ack.send)
   pub between : IsBetween limits half
   pub number : IsNumber next
+  pub all : alone
 
 -- what its parts say of the frames before
 abbrev pub known_of : Option Agreed → Shown → Option Half → Known

@@ -203,13 +203,17 @@ impl Client {
         None
     }
 
-    /// Asks the request, in parts of `part_limit` bytes, at the moment `now`. The result is its request id, and the
-    /// output gains its frames. The header is sent as it is.
+    /// Asks the request, in parts of `part_limit` bytes, at the moment `now`, in ticks of 100 ns since 1601-01-01 UTC.
+    /// The result is its request id, and the output gains its frames. The header is sent as it is. OPC 10000-6, 6.7.2
+    /// and 7.1.2.4.
     ///
-    /// `Err` hands the request back, with the first reason that holds, in this order: `Ended`, `NotOpen`,
-    /// `BadPartLimit` (a part has at least one byte, and at most 24 less than the longest frame that the server takes),
-    /// `TooManyPending` (64 requests), `IdsSpent`, `TooLarge`; or with `NoMemory`, which may come before another. The
-    /// client is as it was. OPC 10000-6, 6.7.2 and 7.1.2.4.
+    /// # Errors
+    ///
+    /// The request is handed back with the first reason that holds: `Ended` where the client has failed; `NotOpen`
+    /// where the channel is not open; `BadPartLimit` where `part_limit` is 0, or more than the longest frame that the
+    /// server takes less 24 bytes; `TooManyPending` where 64 requests are pending; `IdsSpent` where no request id is
+    /// left; `TooLarge` where the request has more bytes, or more parts, than the server takes; `NoMemory` where a
+    /// growth was refused. The contract promises this order of all but `NoMemory`. The client is as it was.
     pub fn ask(
         &mut self,
         now: i64,
@@ -239,10 +243,14 @@ impl Client {
         }
     }
 
-    /// Asks for a new token, at the moment `now`. The output gains the open request.
+    /// Asks for a new token, at the moment `now`, in ticks of 100 ns since 1601-01-01 UTC. The output gains the open
+    /// request. OPC 10000-4, 5.6.2.
     ///
-    /// `Err` is the first reason that holds, in this order: `Ended`, `NotOpen`, `RenewPending`, `IdsSpent`; or
-    /// `NoMemory`. The client is as it was. OPC 10000-4, 5.6.2.
+    /// # Errors
+    ///
+    /// The first reason that holds: `Ended` where the client has failed; `NotOpen` where the channel is not open;
+    /// `RenewPending` where an open request is pending; `IdsSpent` where no request id is left; `NoMemory` where a
+    /// growth was refused. The contract promises this order of all but `NoMemory`. The client is as it was.
     pub fn renew(&mut self, now: i64) -> Result<(), AskFault>
         ensures accepted { IfOk result (λ _. AcceptsAll self.old (counted now) commands.Renew self.new) }
         ensures refused { IfErr result (λ fault. RefusedBy self.old commands.Renew fault) }
@@ -259,10 +267,15 @@ impl Client {
         Ok(())
     }
 
-    /// Closes the channel, at the moment `now`. The output gains the close request, which has no answer.
+    /// Closes the channel, at the moment `now`, in ticks of 100 ns since 1601-01-01 UTC. The output gains the close
+    /// request, which has no answer. OPC 10000-4, 5.6.3.
     ///
-    /// `Err` is the first reason that holds, in this order: `Ended`, `NotOpen`, `RenewPending`, `StillPending`,
-    /// `IdsSpent`; or `NoMemory`. The client is as it was. OPC 10000-4, 5.6.3.
+    /// # Errors
+    ///
+    /// The first reason that holds: `Ended` where the client has failed; `NotOpen` where the channel is not open;
+    /// `RenewPending` where an open request is pending; `StillPending` where a request is pending; `IdsSpent` where no
+    /// request id is left; `NoMemory` where a growth was refused. The contract promises this order of all but
+    /// `NoMemory`. The client is as it was.
     pub fn close(&mut self, now: i64) -> Result<(), AskFault>
         ensures accepted { IfOk result (λ _. AcceptsAll self.old (counted now) commands.Close self.new) }
         ensures refused { IfErr result (λ fault. RefusedBy self.old commands.Close fault) }

@@ -39,12 +39,13 @@ pub(crate) struct Connection {
 impl Model for Connection {
     ghost use Rattle.ua_conn.specs.client.Taking.{ClientRunning};
     ghost use Rattle.ua_conn.specs.client.Ranges.{IsRunning, client_running_of};
+    ghost use Rattle.ua_conn.specs.client.Kept.{IsAll};
 
     ghost Value = { ClientRunning };
 
     ghost view = { λ c. client_running_of c.config c.ack c.channel c.half.half c.pending.requests c.due c.next };
 
-    ghost invariant = { λ c. IsRunning c.config c.ack c.half c.next };
+    ghost invariant = { λ c. IsRunning c.config c.ack c.half c.next (IsAll c) };
 }
 
 impl Connection {

@@ -11,14 +11,24 @@ use crate::moment::later;
 
 impl Client {
     /// Takes one more piece of the server's bytes, which came at `now`: ticks of 100 ns since 1601-01-01 UTC. A moment
-    /// before 0, or before that of an earlier call, counts as that.
+    /// before 0, or before that of an earlier call, counts as that. OPC 10000-6, 6.7 and 7.1.2; OPC 10000-4, 5.6.2 and
+    /// 7.35.
     ///
     /// The result has the answers that the piece made whole, each with the request that was asked under its id. The
-    /// output gains the first open request, once the Acknowledge came. `ServerSaid` and `Broken` say what was wrong
-    /// with the first frame that is refused; answers that came whole before it in the same piece are given up, and the
-    /// output has gained what the frames before it ask for. `NoMemory` says that a growth was refused; the output has
-    /// then gained whole frames that begin that gain. After each of these the client takes no more. `Ended` says that
-    /// it took no more already; nothing has changed. OPC 10000-6, 6.7 and 7.1.2; OPC 10000-4, 5.6.2 and 7.35.
+    /// output gains the first open request, once the Acknowledge came.
+    ///
+    /// # Errors
+    ///
+    /// `Ended` exactly where the client had failed before; nothing has changed then. After each of the others it has
+    /// failed and takes no more, and the answers that came whole in the same piece are given up.
+    ///
+    /// `ServerSaid` where the server gave up: by an ERR, with its status and reason, or by an open response whose
+    /// result is bad, with that result and no reason. `Broken` where a frame is refused, with the status that the
+    /// client's refusals in docs/PROTOCOL.md give it. The first such frame decides between the two, and the output has
+    /// gained what the frames before it ask for.
+    ///
+    /// `NoMemory` where a growth was refused; the output has then gained whole frames that begin what the piece asks
+    /// for.
     pub fn feed(&mut self, now: i64, piece: &[u8]) -> Result<Vec<Answer>, ClientFault>
         ensures hands { IfOk result (λ answers. HandsAll self.old (record { moment = counted now; bytes = piece.now }) self.new answers.items) }
         ensures fails { IfErr result (λ fault. self.old.failed ≡ false → FailsAll self.old (record { moment = counted now; bytes = piece.now }) self.new fault) }

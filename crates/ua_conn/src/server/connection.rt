@@ -54,12 +54,13 @@ pub(crate) struct Connection<'a> {
 impl<'a> Model for Connection<'a> {
     ghost use Rattle.ua_conn.specs.server.Taking.{Running};
     ghost use Rattle.ua_conn.specs.server.Ranges.{IsConnection, running_of};
+    ghost use Rattle.ua_conn.specs.server.Kept.{IsAll};
 
     ghost Value = { Running };
 
     ghost view = { λ c. running_of c.settings.now c.id c.agreed c.channel c.half.half c.next };
 
-    ghost invariant = { λ c. IsConnection c.settings.now.limits c.channel.channel.id c.id c.agreed c.half c.next };
+    ghost invariant = { λ c. IsConnection c.settings.now.limits c.channel.channel.id c.id c.agreed c.half c.next (IsAll c) };
 }
 
 impl<'a> Connection<'a> {

@@ -12,13 +12,16 @@ use std::alloc::{AllocError, Global};
 use ua_disco::Settings;
 use ua_value::NoMemory;
 
-/// Answers a whole input, which came in these pieces, each with its moment: ticks of 100 ns since 1601-01-01 UTC.
-/// The id of the channel is not 0.
+/// Answers a whole input, which came in these pieces, each with its moment: ticks of 100 ns since 1601-01-01 UTC. The
+/// id of the channel is not 0. OPC 10000-6, 6.7 and 7.1.
 ///
-/// The reply has the frames that the server writes, in order; the requests are those that the input makes whole, up
-/// to the first frame that is refused or closes; the end says which of the two came, or whether a cut frame is left.
-/// All are those of the stream of the bytes with their moments, however the input was cut into pieces. `Err` says
-/// that a growth was refused. OPC 10000-6, 6.7 and 7.1.
+/// The reply has the frames that the server writes, in order; the requests are those that the input makes whole, up to
+/// the first frame that is refused or closes; the end says which of the two came, or whether a cut frame is left. All
+/// are those of the stream of the bytes with their moments, however the input was cut into pieces.
+///
+/// # Errors
+///
+/// `NoMemory` where a growth was refused; nothing of the reply is given then.
 pub fn answer_all(
     alloc: Global,
     settings: &Settings,

@@ -1,5 +1,6 @@
 mod links;
 mod show;
+mod streams;
 
 use super::*;
 use std::alloc::{AllocError, Global};

@@ -31,6 +31,7 @@ fn agree(alloc: Global, limits: &Limits, frame: &Frame) -> Result<Agreed, Fault>
 
 impl<'a> Connection<'a> {
     /// Acknowledges a Hello. OPC 10000-6, 7.1.2.3 and 7.1.2.4.
+    #[inline(never)]
     pub(crate) fn hello(&mut self, frame: &Frame, out: &mut Vec<u8>) -> Result<(), Fault>
         requires { frame.now.kind ≡ Kind.Hello }
         ensures does { (asked : List Asked) → Does (hello_effect self.old.site self.old.known (hello_of frame.now.fields)) self.old self.new

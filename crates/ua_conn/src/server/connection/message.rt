@@ -86,6 +86,7 @@ fn say(
 }
 
 /// Hands a request on. The result is the body of the answer to it.
+#[inline(never)]
 fn hand_on(
     alloc: Global,
     settings: &Settings,

@@ -94,6 +94,7 @@ fn opened_body(alloc: Global, channel: u32, granted: Granted, now: u64) -> Resul
 
 impl<'a> Connection<'a> {
     /// Opens the channel or renews its token. OPC 10000-4, 5.6.2; OPC 10000-6, 6.7.2.3 and 6.7.4.
+    #[inline(never)]
     pub(crate) fn issue(&mut self, frame: &Frame, now: u64, out: &mut Vec<u8>) -> Result<(), Fault>
         requires kind { frame.now.kind ≡ Kind.Open }
         requires stamp { now < 2 ^ 63 }
