@@ -28,7 +28,10 @@ pub enum Command {
     /// Answer the pieces of standard input by the settings of this source.
     Answer(Source),
     /// Read a value of this type from these bytes.
-    Value { kind: TypeName, bytes: Vec<u8> },
+    Value {
+        kind: TypeName,
+        bytes: Vec<u8>,
+    },
     /// Show the frames of this capture.
     Show(Capture),
     /// Serve so many connections, one after the other, at this address, by the settings of this source.
@@ -78,7 +81,13 @@ fn required<'a>(alloc: Global, id: &'a str, name: &'a str, help: &'a str) -> Arg
 }
 
 /// A word that has to be one of these names.
-fn named<'a>(alloc: Global, id: &'a str, name: &'a str, help: &'a str, names: &'a [&'a str]) -> Arg<'a>
+fn named<'a>(
+    alloc: Global,
+    id: &'a str,
+    name: &'a str,
+    help: &'a str,
+    names: &'a [&'a str],
+) -> Arg<'a>
     ensures local { result.global ≡ false }
     ensures rule { rule_of result ≡ named_rule id.entry.now names.entry }
 {
@@ -90,7 +99,13 @@ fn type_word<'a>(alloc: Global, names: &'a [&'a str]) -> Arg<'a>
     ensures local { result.global ≡ false }
     ensures rule { rule_of result ≡ type_rule names.entry }
 {
-    named(alloc, "type", "TYPE", "The built-in type of the value", names)
+    named(
+        alloc,
+        "type",
+        "TYPE",
+        "The built-in type of the value",
+        names,
+    )
 }
 
 /// How many connections are served.

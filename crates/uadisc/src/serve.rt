@@ -72,7 +72,12 @@ fn print_line<O: Write>(output: &mut O, served: Served) -> Result<(), Stop>
         written,
     } = served;
     let ending = Ending(end);
-    if writeln!(output, "connection {id} {ending} read {read} written {written}").is_err() {
+    if writeln!(
+        output,
+        "connection {id} {ending} read {read} written {written}"
+    )
+    .is_err()
+    {
         return Err(Stop::File);
     }
     print(output, "")
@@ -182,12 +187,5 @@ where
         return Err(Stop::Link);
     };
     tell_address(&listener, errors);
-    Ok(serve_on(
-        rt,
-        &listener,
-        &settings,
-        connections,
-        output,
-        errors,
-    ))
+    Ok(serve_on(rt, &listener, &settings, connections, output, errors))
 }

@@ -36,7 +36,10 @@ fn shown(text: &UaString) -> Text<'_> {
 }
 
 /// Adds the line of an application, and one for each of its urls.
-fn add_application(text: &mut String, application: &ApplicationDescription) -> Result<(), NoMemory> {
+fn add_application(
+    text: &mut String,
+    application: &ApplicationDescription,
+) -> Result<(), NoMemory> {
     let uri = shown(&application.application_uri);
     let kind = application.application_type;
     let name = shown(&application.application_name.text);

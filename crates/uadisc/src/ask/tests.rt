@@ -83,10 +83,31 @@ fn something_comes_in_the_place_of_an_answer(rt: HostRuntime) {
         (ENDPOINTS_RESPONSE, "broken 80090000\n"),
         (b"GET / HTTP/1.1\r\n".as_slice(), "broken 807E0000\n"),
     ] {
-        assert!(rt; opened(rt.alloc(), Question::Find, said, 1, output), "{output}");
+        assert!(rt;
+            opened(rt.alloc(), Question::Find, said, 1, output),
+            "{output}"
+        );
     }
-    assert!(rt; asks(rt.alloc(), Question::Find, &[ERROR], 1, "server said 807E0000 null\n", ""));
-    assert!(rt; asks(rt.alloc(), Question::Find, &[b"GET / HTTP/1.1\r\n"], 1, "broken 807E0000\n", ""));
+    assert!(rt;
+        asks(
+            rt.alloc(),
+            Question::Find,
+            &[ERROR],
+            1,
+            "server said 807E0000 null\n",
+            ""
+        )
+    );
+    assert!(rt;
+        asks(
+            rt.alloc(),
+            Question::Find,
+            &[b"GET / HTTP/1.1\r\n"],
+            1,
+            "broken 807E0000\n",
+            ""
+        )
+    );
 }
 
 #[test]
@@ -94,7 +115,16 @@ fn a_link_ends_before_the_answer(rt: HostRuntime) {
     let alloc = rt.alloc();
     assert!(rt; asks(alloc, Question::Find, &[], 3, "", "link\n"));
     assert!(rt; asks(alloc, Question::Find, &[ACKNOWLEDGE], 3, "", "link\n"));
-    assert!(rt; asks(alloc, Question::Endpoints, &[ACKNOWLEDGE, OPEN_RESPONSE], 3, "", "link\n"));
+    assert!(rt;
+        asks(
+            alloc,
+            Question::Endpoints,
+            &[ACKNOWLEDGE, OPEN_RESPONSE],
+            3,
+            "",
+            "link\n"
+        )
+    );
     let cut = [ACKNOWLEDGE, OPEN_RESPONSE, &FIND_RESPONSE[..133]];
     assert!(rt; asks(alloc, Question::Find, &cut, 3, "", "link\n"));
 }

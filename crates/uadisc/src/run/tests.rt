@@ -560,7 +560,11 @@ fn tells_failed_reads_and_writes(rt: HostRuntime) {
 }
 
 /// Runs words whose output has not enough room.
-fn expect_failed_write<R: Files + Net + Clock + AllocGlobal + Abort>(rt: &R, words: &[&str], room: usize) {
+fn expect_failed_write<R: Files + Net + Clock + AllocGlobal + Abort>(
+    rt: &R,
+    words: &[&str],
+    room: usize,
+) {
     let mut input = HELLO.as_bytes();
     let mut printed = Page::new(room);
     let mut told = Page::new(4096);

@@ -41,7 +41,12 @@ fn capture_lines(alloc: Global, last: &str) -> Result<String, AllocError> {
 }
 
 /// Shows the bytes from standard input and from a file.
-fn shows<R: Files + Net + Clock + AllocGlobal + Abort>(rt: &R, bytes: &[u8], status: u8, output: &str) {
+fn shows<R: Files + Net + Clock + AllocGlobal + Abort>(
+    rt: &R,
+    bytes: &[u8],
+    status: u8,
+    output: &str,
+) {
     fs::write(rt, "shown.bin", bytes).expect(rt, "a file is written");
     for file in ["-", "shown.bin"] {
         let mut input = bytes;
