@@ -4,7 +4,8 @@ use super::{Page, expect};
 use crate::run::run;
 use std::alloc::{AllocError, Global};
 use std::io::{Read, Write};
-use std::rt::Files;
+use std::net::Net;
+use std::rt::{Clock, Files};
 use std::{fs, io};
 use ua_disco::DEFAULT;
 
@@ -72,7 +73,7 @@ impl Write for Flushed {
 }
 
 /// Whether the words are done without a read, and all that is printed is flushed.
-fn is_done_alone<R: Files + AllocGlobal>(rt: &R, words: &[&str]) -> bool {
+fn is_done_alone<R: Files + Net + Clock + AllocGlobal>(rt: &R, words: &[&str]) -> bool {
     let mut input = Counted { reads: 0 };
     let mut printed = Flushed {
         page: Page::new(4096),
@@ -91,7 +92,7 @@ fn no_input_is_read_without_need(rt: HostRuntime) {
 }
 
 /// Whether the answer to nothing is flushed whole.
-fn answer_is_flushed<R: Files + AllocGlobal>(rt: &R) -> bool {
+fn answer_is_flushed<R: Files + Net + Clock + AllocGlobal>(rt: &R) -> bool {
     let mut input: &[u8] = b"";
     let mut printed = Flushed {
         page: Page::new(4096),
