@@ -9,9 +9,6 @@ onward (Err e) new old more target f h = tt
 in_turn : (o a b c : List ℕ) → ((o ++ a) ++ b) ++ c ≡ o ++ (a ++ (b ++ c))
 in_turn o a b c = simp append_assoc
 
-pub joined_two : (o a b p : List ℕ) → p ≡ o ++ a → p ++ b ≡ o ++ (a ++ b)
-joined_two o a b p e = ap (λ (l : List ℕ). l ++ b) e ∙ append_assoc o a b
-
 pub joined_three : (o a b c p q : List ℕ) → p ≡ o ++ a → q ≡ p ++ b → q ++ c ≡ o ++ (a ++ (b ++ c))
 joined_three o a b c p q e f =
     ap (λ (l : List ℕ). l ++ c) (f ∙ ap (λ (l : List ℕ). l ++ b) e) ∙ in_turn o a b c
