@@ -10,6 +10,7 @@ import threading
 from try_edits.edits import functions_of, key_of, read, sources, write
 
 PARTS = ("src", "specs", "proofs")
+KIT = os.path.dirname(os.path.dirname(os.path.realpath(shutil.which("rt") or "/opt/rattle/bin/rt")))
 HARMLESS = "let _harmless = 0u8;"
 
 # What a check said of a function: whether it is proved, its open goals by name, where they are, and the errors in its proof files.
@@ -22,12 +23,38 @@ def copy_sources(crate, to):
             shutil.copytree(f"{crate.folder}/{part}", f"{to}/{part}")
 
 
+def has_statements(crate):
+    """Whether `rt ci` left the statements of a library, later than its sources and those below it were written."""
+    rlib = f"{crate.folder}/out/rlib"
+    sources_of_all = max(map(newest_of, [*crate.below, crate]))
+    return not os.path.exists(f"{rlib}/stamp") and sources_of_all < newest(f"{rlib}/{crate.name}.rlib")
+
+
+def words_over_statements(crate):
+    """The words of `rattle check` for a crate over the libraries that `rt ci` left."""
+    words = ["--crate-name", crate.name, "src/main.rt" if crate.is_program else "src/lib.rt"]
+    words += [it for name in ("std", *crate.of_kit) for it in ("--extern", f"{name}={KIT}/rlibs/{name}.rlib")]
+    words += ["-L", f"dependency={KIT}/rlibs"]
+    words += [it for dep in crate.deps for it in ("--extern", f"{dep.name}={dep.folder}/out/rlib/{dep.name}.rlib")]
+    words += [it for dep in crate.below for it in ("-L", f"dependency={dep.folder}/out/rlib")]
+    words += ["--antt-project", f"{KIT}/rattle/logic/antt-project.json", "--logic-built", f"{KIT}/logic_built"]
+    return [*words, "--incremental", "out/incremental"]
+
+
 class Rooms:
     """The temporary folder: kept/CRATE has the sources of each crate and its proved work; each check has a room, a repository of its own."""
 
-    def __init__(self):
+    def __init__(self, over_statements):
         self.top = tempfile.mkdtemp(prefix="try-edits-")
+        self.over_statements = over_statements
         self.count, self.lock = 0, threading.Lock()
+
+    def run(self, crate, room, verb, *more):
+        """Runs a verb of `rt` for a crate in its room, and returns the exit status and what was said."""
+        folder = f"{room}/crates/{crate.name}"
+        if self.over_statements:
+            return ran(folder, f"{KIT}/bin/rattle", verb, *words_over_statements(crate), *more)
+        return ran(folder, "rt", verb, *more)
 
     def keep(self, crate):
         """Copies a crate, with what is kept of it and of use: its library, and the work of its checks where there is something to check."""
@@ -55,7 +82,7 @@ class Rooms:
         with self.lock:
             self.count += 1
             room = f"{self.top}/room{self.count}"
-        for it in crate.below:
+        for it in [] if self.over_statements else crate.below:
             for part in (*PARTS, "out/rlib"):
                 link(f"{self.top}/kept/{it.name}/{part}", f"{room}/crates/{it.name}/{part}")
         copy_sources(crate, f"{room}/crates/{crate.name}")
@@ -93,24 +120,24 @@ class Stopped(Exception):
 RUNNING, STOPPING = set(), threading.Event()
 
 
-def rt(folder, *words):
-    """Runs a command of `rt` in a crate's folder, and returns its exit status and what it wrote."""
+def ran(folder, *words):
+    """Runs a command in a crate's folder, and returns its exit status and what it wrote."""
     if STOPPING.is_set():
         raise Stopped
-    ran = subprocess.Popen(["rt", *words], cwd=folder, stdin=subprocess.DEVNULL, stdout=subprocess.PIPE, stderr=subprocess.STDOUT)
-    RUNNING.add(ran)
-    said, _ = ran.communicate()
-    RUNNING.discard(ran)
+    runs = subprocess.Popen(words, cwd=folder, stdin=subprocess.DEVNULL, stdout=subprocess.PIPE, stderr=subprocess.STDOUT)
+    RUNNING.add(runs)
+    said, _ = runs.communicate()
+    RUNNING.discard(runs)
     if STOPPING.is_set():
         raise Stopped
-    return ran.returncode, said.decode("utf-8", "replace")
+    return runs.returncode, said.decode("utf-8", "replace")
 
 
 def stop(*_):
     """Ends all that runs, on a signal. (`rt` ends what it started itself.)"""
     STOPPING.set()
-    for ran in list(RUNNING):
-        ran.kill()
+    for it in list(RUNNING):
+        it.kill()
     raise SystemExit(1)
 
 

@@ -53,6 +53,7 @@ def crates_of_the_repository():
     lines = [line.split("#")[0].strip() for line in read(f"{ROOT}/crates.txt").split("\n")]
     crates = {crate.name: crate for crate in map(Crate, filter(None, lines))}
     for crate in crates.values():
+        crate.of_kit = [name for name in crate.deps if name not in crates]
         crate.deps = [crates[name] for name in crate.deps if name in crates]
         for dep in crate.deps:
             dep.above.append(crate)
