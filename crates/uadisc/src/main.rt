@@ -1,30 +1,11 @@
 //! The command `uadisc`.
 #![tactic(auto)]
 
-mod answer;
-mod ask;
-mod capture;
-mod command;
-mod file;
-mod frame_line;
-mod input;
-mod run;
-mod script;
-mod serve;
-mod settings;
-mod show;
-mod stop;
-mod text;
-mod type_name;
-mod value;
-#[cfg(test)]
-mod vectors;
-
-use crate::run::{run, told};
-use crate::stop::Stop;
 use std::process::ExitCode;
 use std::rt::Env;
 use std::{env, io};
+use ua_command::Stop;
+use ua_command::run::{run, told};
 
 fn main(rt: HostRuntime) -> ExitCode {
     let status = match words(&rt) {

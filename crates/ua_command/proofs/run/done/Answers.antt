@@ -1,0 +1,44 @@
+use Rattle.std.proofs.Common.{refl}
+use Rattle.ua_command.specs.Run.{Streams}
+use Rattle.ua_command.proofs.Ends.{answer_done, value_done, show_done, serve_done, ask_done, answer_stopped, file_stopped, serve_stopped, link_stopped}
+use Rattle.ua_command.proofs.run.done.Goals as goal
+
+pub returns-in-Answer-clause-done : goal.returns-in-Answer-clause-done
+returns-in-Answer-clause-done g c =
+    let s : Streams = record { left = g.I.Read.remaining c.args.input.now; printed = g.O.Write.contents c.args.output.now; printed' = g.O.Write.contents c.answer.new.output; told = g.E.Write.contents c.args.errors.now; told' = g.E.Write.contents c.args.errors.now } in
+    answer_done _ c.in-Answer.source s c.answer.result (rw c.in-Answer.is at c.in-Ok.ensures.asked) refl c.answer.ensures.ok
+
+pub returns-in-Answer-clause-err : goal.returns-in-Answer-clause-err
+returns-in-Answer-clause-err g c = answer_stopped _ c.in-Answer.source _ c.answer.result (rw c.in-Answer.is at c.in-Ok.ensures.asked) c.answer.ensures.err
+
+pub returns-in-Value-clause-done : goal.returns-in-Value-clause-done
+returns-in-Value-clause-done g c =
+    let s : Streams = record { left = g.I.Read.remaining c.args.input.now; printed = g.O.Write.contents c.args.output.now; printed' = g.O.Write.contents c.value.new.output; told = g.E.Write.contents c.args.errors.now; told' = g.E.Write.contents c.args.errors.now } in
+    value_done _ c.in-Value.kind c.in-Value.bytes s c.value.result (rw c.in-Value.is at c.in-Ok.ensures.asked) refl (rw c.as_slice.ensures.value at c.value.ensures.done) (rw c.as_slice.ensures.value at c.value.ensures.refused) c.value.ensures.status
+
+pub returns-in-Value-clause-err : goal.returns-in-Value-clause-err
+returns-in-Value-clause-err g c = file_stopped _ _ _ c.value.result (rw c.in-Value.is at c.in-Ok.ensures.asked) c.value.ensures.err
+
+pub returns-in-Show-clause-done : goal.returns-in-Show-clause-done
+returns-in-Show-clause-done g c =
+    let s : Streams = record { left = g.I.Read.remaining c.args.input.now; printed = g.O.Write.contents c.args.output.now; printed' = g.O.Write.contents c.show.new.output; told = g.E.Write.contents c.args.errors.now; told' = g.E.Write.contents c.args.errors.now } in
+    show_done _ c.in-Show.capture s c.show.result (rw c.in-Show.is at c.in-Ok.ensures.asked) refl c.show.ensures.ok
+
+pub returns-in-Show-clause-err : goal.returns-in-Show-clause-err
+returns-in-Show-clause-err g c = file_stopped _ _ _ c.show.result (rw c.in-Show.is at c.in-Ok.ensures.asked) c.show.ensures.err
+
+pub returns-in-Serve-clause-done : goal.returns-in-Serve-clause-done
+returns-in-Serve-clause-done g c =
+    let s : Streams = record { left = g.I.Read.remaining c.args.input.now; printed = g.O.Write.contents c.args.output.now; printed' = g.O.Write.contents c.serve.new.output; told = g.E.Write.contents c.args.errors.now; told' = g.E.Write.contents c.serve.new.errors } in
+    serve_done _ c.in-Serve.source c.in-Serve.address c.in-Serve.connections s c.serve.result (rw c.in-Serve.is at c.in-Ok.ensures.asked) c.serve.ensures.ok
+
+pub returns-in-Serve-clause-err : goal.returns-in-Serve-clause-err
+returns-in-Serve-clause-err g c = serve_stopped _ c.in-Serve.source c.in-Serve.address c.in-Serve.connections _ c.serve.result (rw c.in-Serve.is at c.in-Ok.ensures.asked) c.serve.ensures.err
+
+pub returns-in-Ask-clause-done : goal.returns-in-Ask-clause-done
+returns-in-Ask-clause-done g c =
+    let s : Streams = record { left = g.I.Read.remaining c.args.input.now; printed = g.O.Write.contents c.args.output.now; printed' = g.O.Write.contents c.ask.new.output; told = g.E.Write.contents c.args.errors.now; told' = g.E.Write.contents c.ask.new.errors } in
+    ask_done _ c.in-Ask.question c.in-Ask.address c.in-Ask.url s c.ask.result (rw c.in-Ask.is at c.in-Ok.ensures.asked) c.ask.ensures.ok
+
+pub returns-in-Ask-clause-err : goal.returns-in-Ask-clause-err
+returns-in-Ask-clause-err g c = link_stopped _ c.in-Ask.question c.in-Ask.address c.in-Ask.url _ c.ask.result (rw c.in-Ask.is at c.in-Ok.ensures.asked) c.ask.ensures.err

@@ -1,0 +1,191 @@
+-- The command line as clap reads it.
+use Rattle.std.specs.Prelude.{◌≡◌, ◌⊎◌, ◌≤◌, ℕ, codes, length, map, string_bytes, true, Some, None, Option, List, [], ◌∷◌, Ok}
+use Rattle.std.specs.Str.Parse.{IsNumeral, digits_value, without_leading_plus}
+use Rattle.clap.specs.Words.{App, Rule, Row, Text, IsAmong, fault_of, first_of, new_app, new_rule, subcommand_of, with_rule, with_subcommand}
+use Rattle.clap.specs.declared.builder.action.ArgAction.TheVariants.{Set}
+use Rattle.clap.specs.declared.builder.value_parser.ValueParser.TheVariants.{Names, Unsigned}
+use Rattle.clap.specs.declared.error.kind.ErrorKind.{ErrorKind}
+use Rattle.clap.specs.declared.error.kind.ErrorKind.TheVariants.{OutOfMemory, DisplayHelp, DisplayVersion}
+use Rattle.hex.specs.Hex.{decode_of}
+use Rattle.ua_variant.specs.KindNames.{kind_name}
+use Rattle.ua_command.specs.TypeNames.{Lent, AreTypeNames}
+use Rattle.ua_command.specs.declared.ask.Question.{Question}
+use Rattle.ua_command.specs.declared.ask.Question.TheVariants.{Find, Endpoints}
+use Rattle.ua_command.specs.declared.command.Command.{Command}
+use Rattle.ua_command.specs.declared.command.Command.TheVariants.{Answer, Value, Show, Serve, Ask}
+use Rattle.ua_command.specs.declared.command.WordsFault.{WordsFault}
+use Rattle.ua_command.specs.declared.command.WordsFault.TheVariants.{Shown, Refused, NoMemory}
+use Rattle.ua_command.specs.declared.command.WordFault.{WordFault}
+use Rattle.ua_command.specs.declared.command.WordFault.TheVariants.{Bad, NoMemory as NoRoom}
+use Rattle.ua_command.specs.declared.settings.Source.{Source}
+use Rattle.ua_command.specs.declared.settings.Source.TheVariants.{Default, File}
+use Rattle.ua_command.specs.declared.show.Capture.{Capture}
+use Rattle.ua_command.specs.declared.show.Capture.TheVariants as captures
+
+-- a word that has to be there, and has one name in the help
+abbrev pub word_rule : Text → Rule
+word_rule id = record (new_rule id) { required = true; action = Some Set; value_names = 1 }
+
+-- one that has to be among these names
+abbrev pub named_rule : Text → Lent → Rule
+named_rule id names = record (word_rule id) { parser = Some (Names names) }
+
+abbrev pub type_rule : Lent → Rule
+type_rule names = named_rule (codes "type") names
+
+-- a word behind `--connections` that has to be there, and a number from 1 to 65535
+abbrev pub count_rule : Rule
+count_rule = record (word_rule (codes "connections")) { long = Some (codes "connections"); parser = Some (Unsigned 1 65535) }
+
+-- the names that some words have to be among, lent from some place: those of the types, and what can be asked for
+pub record Choices : Type 0 where
+  pub types : Lent
+  pub questions : Lent
+
+abbrev pub name_of_question : Question → List ℕ
+name_of_question Find = codes "find"
+name_of_question Endpoints = codes "endpoints"
+
+-- these texts are the names of the questions, wherever they stand
+abbrev pub AreQuestionNames : Lent → Type 0
+AreQuestionNames lent = map (λ s. s.now) lent.now ≡ map name_of_question (Find ∷ Endpoints ∷ [])
+
+abbrev pub AreChoices : Choices → Type 0
+AreChoices choices = AreTypeNames choices.types × AreQuestionNames choices.questions
+
+abbrev pub answer_app : App
+answer_app = with_rule (new_app (codes "answer")) (word_rule (codes "settings"))
+
+abbrev pub value_app : Lent → App
+value_app names = with_rule (with_rule (new_app (codes "value")) (type_rule names)) (word_rule (codes "hex"))
+
+abbrev pub show_app : App
+show_app = with_rule (new_app (codes "show")) (word_rule (codes "file"))
+
+abbrev pub serve_app : App
+serve_app = with_rule (with_rule (with_rule (new_app (codes "serve")) (word_rule (codes "settings"))) (word_rule (codes "address"))) count_rule
+
+abbrev pub ask_app : Lent → App
+ask_app names = with_rule (with_rule (with_rule (new_app (codes "ask")) (named_rule (codes "question") names)) (word_rule (codes "address"))) (word_rule (codes "url"))
+
+abbrev pub plain : App
+plain = let a = new_app (codes "uadisc") in record a { top = record (a.top) { no_binary_name = true; subcommand_required = true; has_version = true } }
+
+abbrev pub answer_or_value : Lent → App
+answer_or_value names = with_subcommand (with_subcommand plain answer_app.top) (value_app names).top
+
+abbrev pub without_links : Lent → App
+without_links names = with_subcommand (answer_or_value names) show_app.top
+
+abbrev pub without_ask : Lent → App
+without_ask names = with_subcommand (without_links names) serve_app.top
+
+abbrev pub uadisc_with : Lent → Lent → App
+uadisc_with types questions = with_subcommand (without_ask types) (ask_app questions).top
+
+abbrev pub uadisc : Choices → App
+uadisc choices = uadisc_with choices.types choices.questions
+
+-- the text of each id, where it has one
+abbrev pub Words : Type 0
+Words = Text → Option Text
+
+-- these are hex digits, and the bytes that they stand for
+abbrev pub IsHexOf : List ℕ → Option Text → Type 0
+IsHexOf bytes None = ⊥
+IsHexOf bytes (Some digits) = decode_of digits ≡ Ok bytes
+
+-- `default` is the built-in settings, and any other text the path of a file
+abbrev pub IsSourceOf : Option Text → Source → Type 0
+IsSourceOf text Default = text ≡ Some (codes "default")
+IsSourceOf text (File path) = (text ≡ Some (string_bytes path)) × (string_bytes path ≡ codes "default" → ⊥)
+
+-- `-` is standard input, and any other text the path of a file
+abbrev pub IsCaptureOf : Option Text → Capture → Type 0
+IsCaptureOf text captures.Input = text ≡ Some (codes "-")
+IsCaptureOf text (captures.File path) = (text ≡ Some (string_bytes path)) × (string_bytes path ≡ codes "-" → ⊥)
+
+-- the text is this number from 1 to 65535, in decimal
+pub record IsCount (text : List ℕ) (n : ℕ) : Type 0 where
+  pub numeral : IsNumeral 10 (without_leading_plus text)
+  pub number : digits_value 10 (without_leading_plus text) ≡ n
+  pub least : 1 ≤ n
+  pub most : n ≤ 65535
+
+abbrev pub IsCountOf : Option Text → ℕ → Type 0
+IsCountOf None n = ⊥
+IsCountOf (Some text) n = IsCount text n
+
+-- a url has at most 4095 bytes
+abbrev pub IsUrlOf : Option Text → List ℕ → Type 0
+IsUrlOf text url = (text ≡ Some url) × (length url ≤ 4095)
+
+-- the word of a command
+abbrev pub word_of : Command → Text
+word_of (Answer source) = codes "answer"
+word_of (Value kind bytes) = codes "value"
+word_of (Show capture) = codes "show"
+word_of (Serve source address connections) = codes "serve"
+word_of (Ask question address url) = codes "ask"
+
+-- the values of a command are those among these words
+abbrev pub HasValues : Words → Command → Type 0
+HasValues word (Answer source) = IsSourceOf (word (codes "settings")) source
+HasValues word (Value kind bytes) = (word (codes "type") ≡ Some (kind_name kind)) × IsHexOf bytes.items (word (codes "hex"))
+HasValues word (Show capture) = IsCaptureOf (word (codes "file")) capture
+HasValues word (Serve source address connections) = IsSourceOf (word (codes "settings")) source × (word (codes "address") ≡ Some (string_bytes address)) × IsCountOf (word (codes "connections")) connections
+HasValues word (Ask question address url) = (word (codes "question") ≡ Some (name_of_question question)) × (word (codes "address") ≡ Some (string_bytes address)) × IsUrlOf (word (codes "url")) (string_bytes url)
+
+-- the command has this word, and its values are those among these words
+abbrev pub IsNamed : Text → Words → Command → Type 0
+IsNamed name word c = (word_of c ≡ name) × HasValues word c
+
+-- the words that clap finds name this command, with these values
+abbrev pub Asks : Option (Text × List Row) → Command → Type 0
+Asks found c = (rows : List Row) × (found ≡ Some (word_of c, rows)) × HasValues (λ id. first_of id rows) c
+
+-- Clap takes the words, and they name this command, with these values. The names that it knows are lent from some place.
+pub record AsksBy (choices : Choices) (words : List Text) (c : Command) : Type 0 where
+  pub taken : fault_of (uadisc choices) words ≡ []
+  pub named : Asks (subcommand_of (uadisc choices) words) c
+
+abbrev pub AsksFor : List Text → Command → Type 0
+AsksFor words c = (choices : Choices) × AreChoices choices × AsksBy choices words c
+
+-- clap answers the words with its help or the version
+abbrev pub AreShown : Choices → List Text → Type 0
+AreShown choices words = IsAmong DisplayHelp (fault_of (uadisc choices) words) ⊎ IsAmong DisplayVersion (fault_of (uadisc choices) words)
+
+abbrev pub AsksForText : List Text → Type 0
+AsksForText words = (choices : Choices) × AreChoices choices × AreShown choices words
+
+-- the words ask for no command, and neither for the help nor for the version alone
+pub record AsksNothingBy (choices : Choices) (words : List Text) : Type 0 where
+  pub no_command : (c : Command) → AsksBy choices words c → ⊥
+  pub no_help : fault_of (uadisc choices) words ≡ DisplayHelp ∷ [] → ⊥
+  pub no_version : fault_of (uadisc choices) words ≡ DisplayVersion ∷ [] → ⊥
+
+abbrev pub AsksForNothing : List Text → Type 0
+AsksForNothing words = (choices : Choices) × AreChoices choices × AsksNothingBy choices words
+
+-- what is asked for in this way is nothing, or memory ran out
+abbrev pub RefusedBy : (Command → Type 0) → WordFault → Type 0
+RefusedBy IsAsked Bad = (c : Command) → IsAsked c → ⊥
+RefusedBy IsAsked NoRoom = Unit {0}
+
+-- the same of words that clap takes, which are shown no text
+abbrev pub NothingBy : (Command → Type 0) → WordsFault → Type 0
+NothingBy IsAsked (Shown text) = ⊥
+NothingBy IsAsked (Refused text) = (c : Command) → IsAsked c → ⊥
+NothingBy IsAsked NoMemory = Unit {0}
+
+abbrev pub IsWordsFault : List Text → WordsFault → Type 0
+IsWordsFault words (Shown text) = AsksForText words
+IsWordsFault words (Refused text) = AsksForNothing words
+IsWordsFault words NoMemory = Unit {0}
+
+-- clap's answers that are no matches: its help and the version, want of memory, and refusals
+abbrev pub IsErrorFault : ErrorKind → WordsFault → Type 0
+IsErrorFault kind (Shown text) = (kind ≡ DisplayHelp) ⊎ (kind ≡ DisplayVersion)
+IsErrorFault kind (Refused text) = (kind ≡ OutOfMemory → ⊥) × (kind ≡ DisplayHelp → ⊥) × (kind ≡ DisplayVersion → ⊥)
+IsErrorFault kind NoMemory = Unit {0}

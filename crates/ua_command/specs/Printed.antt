@@ -1,0 +1,119 @@
+-- What the command prints.
+use Rattle.std.specs.Prelude.{◌≡◌, ℕ, nat_lt, nat_le, ◌==◌, ◌&&◌, ◌/◌, ◌%◌, ◌+◌, ◌-◌, not, true, if◌then◌else◌, List, ◌++◌, ◌∷◌, [], codes, length, replicate, Option, Some, None, Ok}
+use Rattle.std.specs.List.{flat_map}
+use Rattle.std.specs.Fmt.{decimal, digits}
+use Rattle.std.specs.Int.{w8, w16, w32, w64}
+use Rattle.hex.specs.Hex.{encode_lower}
+use Rattle.uuid.specs.Text.{hyphenated_text, lower}
+use Rattle.std.specs.Io.KnownBytes.{Appends}
+use Rattle.ua_value.specs.Format.{Format, Reads, BeginsNone}
+use Rattle.ua_value.specs.Number.{unsigned, signed, boolean}
+use Rattle.ua_value.specs.Bits.{float_bits, double_bits}
+use Rattle.ua_value.specs.Text.{string, xml_element, byte_string}
+use Rattle.ua_value.specs.Date.{date_time}
+use Rattle.ua_value.specs.Guid.{guid, digits_of}
+use Rattle.ua_value.specs.Node.{node_id}
+use Rattle.ua_value.specs.Expanded.{expanded_node_id}
+use Rattle.ua_value.specs.Status.{status_code}
+use Rattle.ua_value.specs.Names.{qualified_name}
+use Rattle.ua_value.specs.Localized.{localized_text}
+use Rattle.ua_variant.specs.Extension.{extension_object}
+use Rattle.ua_variant.specs.Formats.{variant_format, data_format}
+use Rattle.ua_variant.specs.Diagnostic.{diagnostic}
+use Rattle.ua_value.specs.declared.guid.Guid.{Guid}
+use Rattle.ua_value.specs.declared.node.NodeId.{NodeId}
+use Rattle.ua_value.specs.declared.node.Identifier.{Identifier}
+use Rattle.ua_value.specs.declared.node.Identifier.TheVariants as identifiers
+use Rattle.ua_variant.specs.declared.kind.Kind.{Kind}
+use Rattle.ua_variant.specs.declared.kind.Kind.TheVariants as types
+
+-- a lower-case hex digit
+abbrev pub hex_digit : ℕ → ℕ
+hex_digit n = if nat_lt n 10 then 48 + n else 87 + n
+
+abbrev pub two_digits : ℕ → List ℕ
+two_digits byte = hex_digit (byte / 16) ∷ hex_digit (byte % 16) ∷ []
+
+-- the printable characters of ASCII but the double quote and the backslash stand for themselves
+abbrev pub escaped : ℕ → List ℕ
+escaped byte = if nat_le 32 byte && nat_le byte 126 && not (byte == 34) && not (byte == 92) then byte ∷ [] else 92 ∷ 120 ∷ two_digits byte
+
+-- a text, or none
+abbrev pub quoted : Option (List ℕ) → List ℕ
+quoted None = codes "null"
+quoted (Some bytes) = 34 ∷ flat_map escaped bytes ++ 34 ∷ []
+
+abbrev pub opaque_text : Option (List ℕ) → List ℕ
+opaque_text None = codes "b=null"
+opaque_text (Some bytes) = codes "b=" ++ flat_map two_digits bytes
+
+abbrev pub identifier_text : Identifier → List ℕ
+identifier_text (identifiers.Numeric id) = codes "i=" ++ decimal id
+identifier_text (identifiers.Text text) = codes "s=" ++ quoted text
+identifier_text (identifiers.Guid guid) = codes "g=" ++ hyphenated_text lower (digits_of guid)
+identifier_text (identifiers.Opaque bytes) = opaque_text bytes
+
+abbrev pub namespace_text : ℕ → List ℕ
+namespace_text namespace = if namespace == 0 then [] else codes "ns=" ++ decimal namespace ++ codes ";"
+
+abbrev pub node_text : NodeId → List ℕ
+node_text node = namespace_text node.namespace ++ identifier_text node.identifier
+
+-- a status as eight hex digits in upper case
+abbrev pub status_text : ℕ → List ℕ
+status_text status = replicate (8 - length (digits 16 true status)) 48 ++ digits 16 true status
+
+-- the two lines of each value
+abbrev pub value_lines : ℕ → ℕ → List ℕ → List ℕ
+value_lines used len canon = (codes "used " ++ decimal used ++ codes " of " ++ decimal len ++ codes "\n") ++ (codes "canon " ++ encode_lower canon ++ codes "\n")
+
+abbrev pub text_line : List ℕ → List ℕ
+text_line text = codes "text " ++ text ++ codes "\n"
+
+-- how the values of a type are spelled, and what is printed of one behind the two lines
+pub record Shape : Type 1 where
+  pub Value : Type 0
+  pub format : Format Value
+  pub last : Value → List ℕ
+
+abbrev pub two_lines : {V : Type 0} → Format V → Shape
+two_lines {V} f = record { Value = V; format = f; last = λ _. [] }
+
+abbrev pub shape_of : Kind → Shape
+shape_of types.Boolean = two_lines boolean
+shape_of types.SByte = two_lines (signed w8)
+shape_of types.Byte = two_lines (unsigned w8)
+shape_of types.Int16 = two_lines (signed w16)
+shape_of types.UInt16 = two_lines (unsigned w16)
+shape_of types.Int32 = two_lines (signed w32)
+shape_of types.UInt32 = two_lines (unsigned w32)
+shape_of types.Int64 = two_lines (signed w64)
+shape_of types.UInt64 = two_lines (unsigned w64)
+shape_of types.Float = two_lines float_bits
+shape_of types.Double = two_lines double_bits
+shape_of types.String = two_lines string
+shape_of types.DateTime = two_lines date_time
+shape_of types.Guid = record { Value = Guid; format = guid; last = λ g. text_line (hyphenated_text lower (digits_of g)) }
+shape_of types.ByteString = two_lines byte_string
+shape_of types.XmlElement = two_lines xml_element
+shape_of types.NodeId = record { Value = NodeId; format = node_id; last = λ n. text_line (node_text n) }
+shape_of types.ExpandedNodeId = two_lines expanded_node_id
+shape_of types.StatusCode = two_lines status_code
+shape_of types.QualifiedName = two_lines qualified_name
+shape_of types.LocalizedText = two_lines localized_text
+shape_of types.ExtensionObject = two_lines extension_object
+shape_of types.DataValue = two_lines data_format
+shape_of types.Variant = two_lines variant_format
+shape_of types.DiagnosticInfo = two_lines diagnostic
+
+-- the text is the lines of a value that the bytes begin with
+abbrev pub Prints : Shape → List ℕ → List ℕ → Type 0
+Prints s input text = (x : s.Value × ℕ) × Reads s.format input (Ok x) × (text ≡ value_lines x.1 (length input) (s.format.canon x.0) ++ s.last x.0)
+
+-- the lines of a value stand behind what the writer held
+abbrev pub PrintsOnto : Shape → List ℕ → Option (List ℕ) → Option (List ℕ) → Type 0
+PrintsOnto s input old new = (text : List ℕ) × Prints s input text × Appends old new text
+
+-- the bytes begin with no spelling of a value, and one line that says so stands behind what the writer held
+abbrev pub RefusesOnto : Shape → List ℕ → Option (List ℕ) → Option (List ℕ) → Type 0
+RefusesOnto s input old new = BeginsNone s.format.grammar input × Appends old new (codes "refused\n")

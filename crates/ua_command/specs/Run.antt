@@ -1,0 +1,115 @@
+-- What a whole run of the command does.
+use Rattle.std.specs.Prelude.{◌≡◌, ◌⊎◌, ◌≤◌, ℕ, List, Option}
+use Rattle.std.specs.Io.KnownBytes.{Appends}
+use Rattle.clap.specs.Words.{Text}
+use Rattle.ua_command.specs.Answer.{AnswersBy}
+use Rattle.ua_command.specs.Ask.{IsAskStatus}
+use Rattle.ua_command.specs.Command.{AsksFor, AsksForText, AsksForNothing}
+use Rattle.ua_command.specs.Printed.{Shape, shape_of, PrintsOnto, RefusesOnto}
+use Rattle.ua_command.specs.Serve.{Serves}
+use Rattle.ua_command.specs.Settings.{RefusesSource}
+use Rattle.ua_command.specs.Show.{ShowsCapture}
+use Rattle.ua_command.specs.Stop.{status_of, IsAnswerStop, IsQuiet}
+use Rattle.ua_command.specs.declared.command.Command.{Command}
+use Rattle.ua_command.specs.declared.command.Command.TheVariants.{Answer, Value, Show, Serve, Ask}
+use Rattle.ua_command.specs.declared.stop.Stop.{Stop}
+use Rattle.ua_disco.specs.declared.fault.SettingsFault.{SettingsFault}
+use Rattle.ua_command.specs.declared.settings.Source.{Source}
+use Rattle.ua_command.specs.declared.show.Capture.{Capture}
+use Rattle.ua_command.specs.declared.show.Capture.TheVariants as captures
+use Rattle.ua_command.specs.declared.stop.Stop.TheVariants.{Words, Settings, Line, File, Link, NoMemory}
+
+-- at 0 the lines of a value stand behind what the writer held, and at 1 one line that says that there is none
+pub record Shows (s : Shape) (input : List ℕ) (old new : Option (List ℕ)) (status : ℕ) : Type 0 where
+  pub value : status ≡ 0 → PrintsOnto s input old new
+  pub refused : status ≡ 1 → RefusesOnto s input old new
+  pub status_is : status ≤ 1
+
+-- What a command does with its input and output, where nothing stops it. What is printed of a connection is not said: nothing is known of what a socket carries.
+abbrev pub Does : Command → Option (List ℕ) → Option (List ℕ) → Option (List ℕ) → ℕ → Type 0
+Does (Answer source) left old new status = AnswersBy source left old new status
+Does (Value kind bytes) left old new status = Shows (shape_of kind) bytes.items old new status
+Does (Show capture) left old new status = ShowsCapture capture left old new status
+Does (Serve source address connections) left old new status = Serves source status
+Does (Ask question address url) left old new status = IsAskStatus status
+
+-- A command that is done tells nothing but where it is one over links, which tells where it listens, and how a link failed.
+abbrev pub TellsOf : Command → Option (List ℕ) → Option (List ℕ) → Type 0
+TellsOf (Answer source) old new = new ≡ old
+TellsOf (Value kind bytes) old new = new ≡ old
+TellsOf (Show capture) old new = new ≡ old
+TellsOf (Serve source address connections) old new = Unit {0}
+TellsOf (Ask question address url) old new = Unit {0}
+
+-- what a run has to do with: what the reader has left, and what the writers of what is printed and of what is told held before and hold then
+pub record Streams : Type 0 where
+  pub left : Option (List ℕ)
+  pub printed : Option (List ℕ)
+  pub printed' : Option (List ℕ)
+  pub told : Option (List ℕ)
+  pub told' : Option (List ℕ)
+
+-- the command that the words ask for is done
+abbrev pub Done : List Text → Streams → ℕ → Type 0
+Done words s status = (c : Command) × AsksFor words c × Does c s.left s.printed s.printed' status × TellsOf c s.told s.told'
+
+-- a text stands behind what the writer held, where the words ask for help or the version
+pub record ShowsText (words : List Text) (old new : Option (List ℕ)) (status : ℕ) : Type 0 where
+  pub asked : AsksForText words
+  pub text : List ℕ
+  pub printed : Appends old new text
+  pub status_is : status ≡ 0
+
+-- what the words ask for is done: a command, or a text, where nothing is told
+abbrev pub IsDone : List Text → Streams → ℕ → Type 0
+IsDone words s status = Done words s status ⊎ (ShowsText words s.printed s.printed' status × (s.told' ≡ s.told))
+
+-- the command has settings, which are refused with this fault
+abbrev pub RefusesSettingsOf : Command → SettingsFault → Type 0
+RefusesSettingsOf (Answer source) fault = RefusesSource source fault
+RefusesSettingsOf (Value kind bytes) fault = ⊥
+RefusesSettingsOf (Show capture) fault = ⊥
+RefusesSettingsOf (Serve source address connections) fault = RefusesSource source fault
+RefusesSettingsOf (Ask question address url) fault = ⊥
+
+-- the command is one over links
+abbrev pub IsOverLinks : Command → Type 0
+IsOverLinks (Answer source) = ⊥
+IsOverLinks (Value kind bytes) = ⊥
+IsOverLinks (Show capture) = ⊥
+IsOverLinks (Serve source address connections) = Unit {0}
+IsOverLinks (Ask question address url) = Unit {0}
+
+-- the command reads its input
+abbrev pub ReadsInput : Command → Type 0
+ReadsInput (Answer source) = Unit {0}
+ReadsInput (Value kind bytes) = ⊥
+ReadsInput (Show captures.Input) = Unit {0}
+ReadsInput (Show (captures.File path)) = ⊥
+ReadsInput (Serve source address connections) = ⊥
+ReadsInput (Ask question address url) = ⊥
+
+-- the input stays as it was, or the words ask for a command that reads it
+abbrev pub LeavesInput : List Text → Option (List ℕ) → Option (List ℕ) → Type 0
+LeavesInput words old new = (new ≡ old) ⊎ ((c : Command) × AsksFor words c × ReadsInput c)
+
+-- Bad words are those that ask for nothing, bad settings those of the command, and a bad line is the first bad one of what `answer` reads by good settings.
+-- A failed read or write stops only what was asked for, a failed link only a command over links, and want of memory may come at any words.
+abbrev pub IsStop : List Text → Option (List ℕ) → Stop → Type 0
+IsStop words left (Words text) = AsksForNothing words
+IsStop words left (Settings fault) = (c : Command) × AsksFor words c × RefusesSettingsOf c fault
+IsStop words left (Line number) = (source : Source) × AsksFor words (Answer source) × IsAnswerStop source left (Line number)
+IsStop words left File = ((c : Command) × AsksFor words c) ⊎ AsksForText words
+IsStop words left Link = (c : Command) × AsksFor words c × IsOverLinks c
+IsStop words left NoMemory = Unit {0}
+
+-- something stopped the command before it was done; nothing was printed but where a file failed
+pub record Stopped (words : List Text) (left old new : Option (List ℕ)) (status : ℕ) : Type 0 where
+  pub stop : Stop
+  pub why : IsStop words left stop
+  pub quiet : IsQuiet stop old new
+  pub status_is : status ≡ status_of stop
+
+-- what the words ask for is done, or it was stopped
+abbrev pub Runs : List Text → Streams → ℕ → Type 0
+Runs words s status = IsDone words s status ⊎ Stopped words s.left s.printed s.printed' status

@@ -1,0 +1,124 @@
+//! The command `answer`: answers the pieces of a connection.
+
+ghost use Rattle.std.specs.Prelude.{◌≡◌, List, ℕ, IfOk, IfErr, Ok, Some, string_bytes};
+ghost use Rattle.ua_command.specs.Answer.{answer_lines, answered as answered_bytes, ending, end_text, stream_of, IsInput, AnswersInput, AnswersBy};
+ghost use Rattle.ua_command.specs.End.{end_status};
+ghost use Rattle.ua_command.specs.Script.{script_in, times};
+ghost use Rattle.ua_command.specs.Stop.{IsInputStop, IsAnswerStop, IsQuiet};
+
+use crate::input::read_whole;
+use crate::script::{TimedPiece, script_of};
+use crate::settings::{Source, settings_in};
+use crate::stop::{Stop, print};
+use crate::text::Code;
+use std::alloc::Global;
+use std::fmt;
+use std::io::{Read, Write};
+use std::rt::Files;
+use ua_conn::{End, Outcome, answer_all};
+use ua_disco::Settings;
+use ua_value::NoMemory;
+
+/// The id of the channel that a connection of the command has.
+const CHANNEL: u32 = 1;
+
+/// How a connection ended, as the command prints it.
+#[derive(Clone, Copy)]
+pub struct Ending(pub End);
+
+impl fmt::Display for Ending {
+    ghost output = { λ e. Some (end_text e.0) };
+
+    fn fmt<W: fmt::Write>(&self, f: &mut fmt::Formatter<W>) -> fmt::Result {
+        match self.0 {
+            End::Closed => f.write_str("closed"),
+            End::InputEnded => f.write_str("input-ended"),
+            End::Truncated => f.write_str("truncated"),
+            End::Refused(status) => write!(f, "refused {}", Code(status)),
+            End::LinkFailed => f.write_str("link-failed"),
+            End::TurnsSpent => f.write_str("turns-spent"),
+            End::NoMemory => f.write_str("memory"),
+        }
+    }
+}
+
+/// What the pieces are answered.
+fn answered(alloc: Global, settings: &Settings, pieces: &[TimedPiece]) -> Result<Outcome, NoMemory>
+    ensures reply { IfOk result (λ outcome. outcome.reply.items ≡ answered_bytes settings.now (stream_of (times pieces.now))) }
+    ensures end { IfOk result (λ outcome. outcome.end ≡ ending settings.now (stream_of (times pieces.now))) }
+{
+    let mut lent: Vec<(i64, &[u8])> = Vec::new(alloc);
+    'pieces: for piece in pieces {
+        lent.push((piece.moment, piece.bytes.as_slice()))?;
+    }
+    answer_all(alloc, settings, CHANNEL, lent.as_slice())
+}
+
+/// The reply in hex on one line, and the end on another.
+fn lines(alloc: Global, reply: &[u8], end: End) -> Result<String, NoMemory>
+    ensures { IfOk result (λ text. string_bytes text ≡ answer_lines reply.now end) }
+{
+    let mut text = hex::encode(alloc, reply)?;
+    writeln!(text, "\nend {}", Ending(end))?;
+    Ok(text)
+}
+
+/// The exit status of an end: 0 where a close came or the input ended behind a whole frame, 1 where a frame was
+/// refused or cut, 3 where the link failed, 4 for want of memory.
+fn status_of(end: End) -> u8
+    ensures { result ≡ end_status end }
+{
+    match end {
+        End::Closed | End::InputEnded | End::TurnsSpent => 0,
+        End::Truncated | End::Refused(_) => 1,
+        End::LinkFailed => 3,
+        End::NoMemory => 4,
+    }
+}
+
+/// The pieces that the lines of the whole input give, or the number of the first bad line.
+fn pieces_in<I: Read>(alloc: Global, input: &mut I) -> Result<Vec<TimedPiece>, Stop>
+    ensures ok { IfOk result (λ pieces. (text : List ℕ) × IsInput (I.remaining input.old) text × (script_in text ≡ Ok (times pieces.items))) }
+    ensures err { IfErr result (IsInputStop (I.remaining input.old)) }
+{
+    let text = read_whole(alloc, input)?;
+    let pieces = script_of(alloc, text.as_slice())?;
+    Ok(pieces)
+}
+
+/// Answers the pieces that the input gives by these settings, prints the reply and the end, and gives the exit status.
+fn answer_input<I: Read, O: Write>(
+    alloc: Global,
+    settings: &Settings,
+    input: &mut I,
+    output: &mut O,
+) -> Result<u8, Stop>
+    ensures ok { IfOk result (AnswersInput settings.now (I.remaining input.old) (O.contents output.old) (O.contents output.new)) }
+    ensures err { IfErr result (IsInputStop (I.remaining input.old)) }
+    ensures quiet { IfErr result (λ stop. IsQuiet stop (O.contents output.old) (O.contents output.new)) }
+{
+    let pieces = pieces_in(alloc, input)?;
+    let outcome = answered(alloc, settings, pieces.as_slice())?;
+    let lines = lines(alloc, outcome.reply.as_slice(), outcome.end)?;
+    print(output, lines.as_str())?;
+    Ok(status_of(outcome.end))
+}
+
+/// Answers the pieces that the input gives by the settings of the source, prints the reply and the end, and gives the
+/// exit status: 0 where a close came or the input ended behind a whole frame, else 1.
+///
+/// The settings are read first. Nothing is printed before they were understood, the input was read to its end, all of
+/// its lines were understood and the lines of the answer are made.
+pub fn answer<R: Files + AllocGlobal, I: Read, O: Write>(
+    rt: &R,
+    source: &Source,
+    input: &mut I,
+    output: &mut O,
+) -> Result<u8, Stop>
+    ensures ok { IfOk result (AnswersBy source.now (I.remaining input.old) (O.contents output.old) (O.contents output.new)) }
+    ensures err { IfErr result (IsAnswerStop source.now (I.remaining input.old)) }
+    ensures quiet { IfErr result (λ stop. IsQuiet stop (O.contents output.old) (O.contents output.new)) }
+{
+    let settings = settings_in(rt, source)?;
+    answer_input(rt.alloc(), &settings, input, output)
+}

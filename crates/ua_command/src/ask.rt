@@ -1,0 +1,341 @@
+//! The command `ask`: asks a server over TCP for the servers that it knows, or for its endpoints.
+
+ghost use Rattle.std.specs.Prelude.{◌≡◌, ◌⊎◌, ◌<◌, ◌≤◌, ◌-◌, ◌^◌, length, None, Some, IfOk, IfErr, MatchOption};
+ghost use Rattle.ua_command.specs.Ask.{IsAskStatus, IsTalkStop};
+ghost use Rattle.ua_command.specs.Command.{AreQuestionNames, name_of_question};
+ghost use Rattle.ua_command.specs.declared.ask.Question.{Question};
+
+mod lines;
+
+use crate::ask::lines::{Outcome, lines_of};
+use crate::run::told;
+use crate::stop::{Stop, print};
+use std::alloc::{AllocError, Global};
+use std::io::Write;
+use std::net::{Net, TcpStream};
+use std::rt::Clock as HostClock;
+use ua_conn::{Answer, AnswerResult, AskFault, Client, ClientConfig, ClientFault};
+use ua_link::{ClientTurn, Clock, Link, MachineClock, TcpLink, pump_client, send_output};
+use ua_service::{FindServersRequest, GetEndpointsRequest, Request, request_header};
+use ua_value::{Array, DateTime, NoMemory, UaString, let_go};
+
+/// What can be asked for.
+#[derive(Clone, Copy, Debug, PartialEq, Eq)]
+pub enum Question {
+    /// The servers that are known (OPC 10000-4, 5.5.2).
+    Find,
+    /// The endpoints of the server (OPC 10000-4, 5.5.4).
+    Endpoints,
+}
+
+/// The names of what can be asked for.
+pub fn question_names<'a>() -> &'a [&'a str]
+    ensures { AreQuestionNames result }
+{
+    &["find", "endpoints"]
+}
+
+/// What has this name, letter for letter, or none.
+pub fn question_of(text: &str) -> Option<Question>
+    ensures { MatchOption result ((question : Question) → name_of_question question ≡ text.now → ⊥) (λ question. name_of_question question ≡ text.now) }
+{
+    match text {
+        "find" => Some(Question::Find),
+        "endpoints" => Some(Question::Endpoints),
+        _ => None,
+    }
+}
+
+/// The most reads until the answer.
+const MOST_READS: u32 = 4096;
+
+/// The handle of the request, which is its request id as well.
+const HANDLE: u32 = 2;
+
+/// The bytes of a part of the request, which fits into the shortest frame that a server may take.
+const PART_LIMIT: u32 = 8168;
+
+/// The limits of the client; its tokens live an hour.
+const CONFIG: ClientConfig = ClientConfig {
+    buffer: 65535,
+    max_message: 0x10_0000,
+    max_chunks: 64,
+    lifetime: 3_600_000,
+};
+
+/// The url as a text of a message.
+fn text_of(alloc: Global, url: &str) -> Result<UaString, NoMemory>
+    ensures { IfOk result (λ text. text ≡ Some url.now) }
+{
+    match UaString::new(alloc, url) {
+        Ok(text) => Ok(text),
+        Err(_) => Err(AllocError),
+    }
+}
+
+/// A client that greets the server by this url.
+fn client_of(alloc: Global, url: &str) -> Result<Client, NoMemory>
+    requires { length url.now ≤ 4095 }
+{
+    let url = text_of(alloc, url)?;
+    Client::new(alloc, CONFIG, &url, 1)
+}
+
+/// The request: no locales, and all that there is.
+fn request_of(alloc: Global, now: i64, question: Question, url: &str) -> Result<Request, NoMemory> {
+    let endpoint_url = text_of(alloc, url)?;
+    let header = request_header(DateTime(now), HANDLE);
+    Ok(match question {
+        Question::Find => Request::FindServers(FindServersRequest {
+            header,
+            endpoint_url,
+            locale_ids: Array::null(),
+            server_uris: Array::null(),
+        }),
+        Question::Endpoints => Request::GetEndpoints(GetEndpointsRequest {
+            header,
+            endpoint_url,
+            locale_ids: Array::null(),
+            profile_uris: Array::null(),
+        }),
+    })
+}
+
+/// Asks, where the channel is open, and says whether it was.
+fn is_asked(
+    alloc: Global,
+    client: &mut Client,
+    now: i64,
+    question: Question,
+    url: &str,
+) -> Result<bool, AskFault> {
+    let request = request_of(alloc, now, question, url)?;
+    match client.ask(now, request, PART_LIMIT) {
+        Ok(_) => Ok(true),
+        Err((AskFault::NotOpen, _)) => Ok(false),
+        Err((fault, _)) => Err(fault),
+    }
+}
+
+/// What a fault of the client is to the command.
+fn of_fault(fault: ClientFault) -> Result<Outcome, Stop>
+    ensures { IfErr result IsTalkStop }
+{
+    match fault {
+        ClientFault::ServerSaid(status, reason) => Ok(Outcome::Said(status, reason)),
+        ClientFault::Broken(status) => Ok(Outcome::Broken(status)),
+        ClientFault::NoMemory => Err(Stop::NoMemory),
+        ClientFault::Ended => Err(Stop::Link),
+    }
+}
+
+/// What a refused question is to the command.
+fn of_refusal(fault: AskFault) -> Result<Outcome, Stop>
+    ensures { IfErr result IsTalkStop }
+{
+    match fault {
+        AskFault::NoMemory => Err(Stop::NoMemory),
+        fault => Ok(Outcome::NotAsked(fault)),
+    }
+}
+
+/// Closes the channel, and sends this as far as the link goes.
+fn close<L: Link>(client: &mut Client, link: &mut L, now: i64)
+    requires { L.fault_count link.old < 2 ^ 64 - 1 }
+{
+    if client.close(now).is_ok() {
+        let _ = send_output(client, link);
+    }
+}
+
+/// What came of the first of the answers, if there is one.
+fn outcome_of(mut answers: Vec<Answer>) -> Option<Outcome> {
+    let Answer {
+        id: _,
+        request: _,
+        result,
+    } = answers.pop()?;
+    match result {
+        AnswerResult::Response(response) => Some(Outcome::Answered(response)),
+        AnswerResult::Aborted(status) => Some(Outcome::Aborted(status)),
+    }
+}
+
+/// What one turn of the client brought: what came of the question, or nothing yet.
+fn turn<L: Link, C: Clock>(
+    client: &mut Client,
+    link: &mut L,
+    clock: &mut C,
+) -> Result<Option<Outcome>, Stop>
+    requires { L.fault_count link.old < 2 ^ 64 - 1 }
+    ensures stop { IfErr result IsTalkStop }
+    ensures counted { IfOk result (λ outcome. outcome ≡ None → L.fault_count link.new ≡ L.fault_count link.old) }
+{
+    match pump_client(client, link, clock) {
+        ClientTurn::Answers(answers) => {
+            let outcome = outcome_of(answers);
+            if outcome.is_some() {
+                close(client, link, clock.now());
+            }
+            Ok(outcome)
+        }
+        ClientTurn::InputEnded | ClientTurn::LinkFailed => Err(Stop::Link),
+        ClientTurn::Fault(fault) => match of_fault(fault) {
+            Ok(outcome) => Ok(Some(outcome)),
+            Err(stop) => Err(stop),
+        },
+    }
+}
+
+/// Talks with the server until it answers.
+fn talk<L: Link, C: Clock>(
+    alloc: Global,
+    link: &mut L,
+    clock: &mut C,
+    question: Question,
+    url: &str,
+) -> Result<Outcome, Stop>
+    requires url { length url.now ≤ 4095 }
+    requires countable { L.fault_count link.old < 2 ^ 64 - 1 }
+    ensures { IfErr result IsTalkStop }
+{
+    let Ok(mut client) = client_of(alloc, url) else {
+        return Err(Stop::NoMemory);
+    };
+    let mut asked = false;
+    'reads: for _ in 0..MOST_READS {
+        match turn(&mut client, link, clock) {
+            Ok(None) => {}
+            Ok(Some(outcome)) => return Ok(outcome),
+            Err(stop) => return Err(stop),
+        }
+        if !asked {
+            match is_asked(alloc, &mut client, clock.now(), question, url) {
+                Ok(is) => asked = is,
+                Err(fault) => return of_refusal(fault),
+            }
+        }
+    }
+    Err(Stop::Link)
+}
+
+/// The number of a reason why the question was refused.
+fn number_of(fault: AskFault) -> u8 {
+    match fault {
+        AskFault::NotOpen => 1,
+        AskFault::TooLarge => 2,
+        AskFault::TooManyPending => 3,
+        AskFault::IdsSpent => 4,
+        AskFault::RenewPending => 5,
+        AskFault::StillPending => 6,
+        AskFault::Ended => 7,
+        AskFault::NoMemory => 8,
+        AskFault::BadPartLimit => 9,
+    }
+}
+
+/// Prints what came of the question, and gives the exit status.
+fn tell_outcome<O: Write, E: Write>(
+    alloc: Global,
+    outcome: &Outcome,
+    output: &mut O,
+    errors: &mut E,
+) -> Result<u8, Stop>
+    ensures status { IfOk result (λ status. (status ≡ 0) ⊎ (status ≡ 1)) }
+    ensures stop { IfErr result IsTalkStop }
+{
+    if let Outcome::NotAsked(fault) = outcome {
+        let number = number_of(*fault);
+        let _ = writeln!(errors, "not asked {number}");
+        return Ok(1);
+    }
+    let Ok(text) = lines_of(alloc, outcome) else {
+        return Err(Stop::NoMemory);
+    };
+    print(output, text.as_str())?;
+    match outcome {
+        Outcome::Answered(_) if !outcome.is_fault() => Ok(0),
+        _ => Ok(1),
+    }
+}
+
+/// Tells what came of the question, and gives the exit status, also where that can't be printed.
+fn status_of<O: Write, E: Write>(
+    alloc: Global,
+    outcome: &Outcome,
+    output: &mut O,
+    errors: &mut E,
+) -> u8
+    ensures { IsAskStatus result }
+{
+    match tell_outcome(alloc, outcome, output, errors) {
+        Ok(status) => status,
+        Err(stop) => told(&stop, errors),
+    }
+}
+
+/// Asks a server over a link, which the client calls by the url of at most 4095 bytes: opens a channel, asks, and closes
+/// the channel after the answer. The answer is printed.
+///
+/// The result is the exit status: 0 for an answer; 1 for a fault, an abort, an error of the server or a frame that the
+/// client refuses, which is printed, and where the server takes no such request, which is told on `errors`; 3 where the
+/// link fails or ends before, or 4096 reads bring no answer; 4 for want of memory. Fewer than 2^64 - 1 calls of the
+/// link failed before.
+pub fn ask_over<L: Link, C: Clock, O: Write, E: Write>(
+    alloc: Global,
+    link: &mut L,
+    clock: &mut C,
+    question: Question,
+    url: &str,
+    output: &mut O,
+    errors: &mut E,
+) -> u8
+    requires url { length url.now ≤ 4095 }
+    requires countable { L.fault_count link.old < 2 ^ 64 - 1 }
+    ensures { IsAskStatus result }
+{
+    match talk(alloc, link, clock, question, url) {
+        Ok(outcome) => {
+            let status = status_of(alloc, &outcome, output, errors);
+            let_go(outcome);
+            status
+        }
+        Err(stop) => told(&stop, errors),
+    }
+}
+
+/// Connects to the address, and asks the server there. `Link` says that nobody listens at the address, and nothing is
+/// printed then.
+pub fn ask<R, O, E>(
+    rt: &R,
+    question: Question,
+    address: &str,
+    url: &str,
+    output: &mut O,
+    errors: &mut E,
+) -> Result<u8, Stop>
+where
+    R: Net + HostClock + AllocGlobal,
+    O: Write,
+    E: Write,
+    requires { length url.now ≤ 4095 }
+    ensures ok { IfOk result IsAskStatus }
+    ensures err { IfErr result (λ stop. stop ≡ Stop.Link) }
+    ensures quiet { IfErr result (λ _. O.contents output.new ≡ O.contents output.old) }
+    ensures untold { IfErr result (λ _. E.contents errors.new ≡ E.contents errors.old) }
+{
+    let Ok(stream) = TcpStream::connect(rt, address) else {
+        return Err(Stop::Link);
+    };
+    let mut link = TcpLink::new(stream);
+    let mut clock = MachineClock::new(rt);
+    Ok(ask_over(
+        rt.alloc(),
+        &mut link,
+        &mut clock,
+        question,
+        url,
+        output,
+        errors,
+    ))
+}

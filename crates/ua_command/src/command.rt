@@ -1,0 +1,269 @@
+//! The words of the command.
+
+ghost use Rattle.std.specs.Prelude.{◌≡◌, ℕ, IfOk, IfErr, MatchOption, Some, codes, map};
+ghost use Rattle.clap.specs.Words.{subcommand_rows_of, first_value, found_of};
+ghost use Rattle.clap.specs.Values.{kind_of};
+ghost use Rattle.ua_command.specs.Command.{Asks, AsksFor, IsWordsFault, IsErrorFault, IsNamed, IsCount, IsSourceOf, RefusedBy, NothingBy};
+
+mod parsers;
+
+use crate::ask::{Question, question_names, question_of};
+use crate::command::parsers::parser;
+use crate::settings::Source;
+use crate::show::Capture;
+use crate::type_names::{type_named, type_names};
+use clap::ArgMatches;
+use clap::error::ErrorKind;
+use hex::FromHexError;
+use std::alloc::{AllocError, Global};
+use ua_variant::Kind;
+
+/// The most bytes of a url. OPC 10000-6, 7.1.2.3.
+const LONGEST_URL: usize = 4095;
+
+/// What the words ask for.
+#[derive(Debug, Drop)]
+pub enum Command {
+    /// Answer the pieces of standard input by the settings of this source.
+    Answer(Source),
+    /// Read a value of this type from these bytes.
+    Value {
+        kind: Kind,
+        bytes: Vec<u8>,
+    },
+    /// Show the frames of this capture.
+    Show(Capture),
+    /// Serve so many connections, one after the other, at this address, by the settings of this source.
+    Serve {
+        source: Source,
+        address: String,
+        connections: u16,
+    },
+    /// Ask this of the server at an address, which the client calls by this url.
+    Ask {
+        question: Question,
+        address: String,
+        url: String,
+    },
+}
+
+/// Why the words are no command.
+#[derive(Debug, Drop)]
+pub enum WordsFault {
+    /// They ask for help or for the version, and this is the text to print.
+    Shown(String),
+    /// They are refused, and this is the text to print.
+    Refused(String),
+    /// A growth was refused.
+    NoMemory,
+}
+
+/// What is wrong with words that `clap` takes.
+#[derive(Clone, Copy, Debug)]
+enum WordFault {
+    /// A word is none that it may be.
+    Bad,
+    /// A growth was refused.
+    NoMemory,
+}
+
+/// The command that the words are, which are those after the program's name.
+///
+/// The settings are `default`, or else the path of a file; a capture is `-`, standard input, or else
+/// the path of a file. No file is read here. The call changes nothing.
+///
+/// # Errors
+///
+/// `Shown` where the words ask for help or for the version, with its text. `Refused` where they are
+/// no command, with the text to print: that of `clap` where it refuses them, and `words` where it
+/// takes them and the hex is none. `NoMemory` where a growth was refused.
+pub fn command_of(alloc: Global, words: &[&str]) -> Result<Command, WordsFault>
+    ensures asked { IfOk result (AsksFor (map (λ w. w.now) words.entry.now)) }
+    ensures refused { IfErr result (IsWordsFault (map (λ w. w.now) words.entry.now)) }
+{
+    let Ok(parser) = parser(alloc, type_names(), question_names()) else {
+        return Err(WordsFault::NoMemory);
+    };
+    match parser.try_get_matches_from(words) {
+        Ok(matches) => asked(alloc, &matches),
+        Err(error) => Err(fault_of(alloc, &error)),
+    }
+}
+
+/// The fault that an answer of `clap` is, which is no command.
+fn fault_of(alloc: Global, error: &clap::Error) -> WordsFault
+    ensures { IsErrorFault (kind_of error.now) result }
+{
+    let kind = error.kind();
+    if kind == ErrorKind::OutOfMemory {
+        return WordsFault::NoMemory;
+    }
+    let Ok(text) = error.to_string(alloc) else {
+        return WordsFault::NoMemory;
+    };
+    match kind {
+        ErrorKind::DisplayHelp | ErrorKind::DisplayVersion => WordsFault::Shown(text),
+        _ => WordsFault::Refused(text),
+    }
+}
+
+/// The command that the matches name.
+fn asked(alloc: Global, matches: &ArgMatches) -> Result<Command, WordsFault>
+    ensures asked { IfOk result (Asks (subcommand_rows_of matches.now)) }
+    ensures refused { IfErr result (NothingBy (Asks (subcommand_rows_of matches.now))) }
+{
+    match command_in(alloc, matches) {
+        Ok(command) => Ok(command),
+        Err(WordFault::NoMemory) => Err(WordsFault::NoMemory),
+        Err(WordFault::Bad) => match String::from_str(alloc, "words\n") {
+            Ok(text) => Err(WordsFault::Refused(text)),
+            Err(_) => Err(WordsFault::NoMemory),
+        },
+    }
+}
+
+fn command_in(alloc: Global, matches: &ArgMatches) -> Result<Command, WordFault>
+    ensures asked { IfOk result (Asks (subcommand_rows_of matches.now)) }
+    ensures refused { IfErr result (RefusedBy (Asks (subcommand_rows_of matches.now))) }
+{
+    let Some((name, inner)) = matches.subcommand() else {
+        return Err(WordFault::Bad);
+    };
+    match name {
+        "answer" => answer_in(alloc, inner),
+        "value" => value_in(alloc, inner),
+        "show" => show_in(alloc, inner),
+        "serve" => serve_in(alloc, inner),
+        "ask" => ask_in(alloc, inner),
+        _ => Err(WordFault::Bad),
+    }
+}
+
+fn answer_in(alloc: Global, matches: &ArgMatches) -> Result<Command, WordFault>
+    ensures asked { IfOk result (IsNamed (codes "answer") (first_value (found_of matches.now))) }
+    ensures refused { IfErr result (RefusedBy (IsNamed (codes "answer") (first_value (found_of matches.now)))) }
+{
+    match matches.get_str("settings") {
+        Some("default") => Ok(Command::Answer(Source::Default)),
+        Some(path) => match String::from_str(alloc, path) {
+            Ok(path) => Ok(Command::Answer(Source::File(path))),
+            Err(_) => Err(WordFault::NoMemory),
+        },
+        None => Err(WordFault::Bad),
+    }
+}
+
+fn value_in(alloc: Global, matches: &ArgMatches) -> Result<Command, WordFault>
+    ensures asked { IfOk result (IsNamed (codes "value") (first_value (found_of matches.now))) }
+    ensures refused { IfErr result (RefusedBy (IsNamed (codes "value") (first_value (found_of matches.now)))) }
+{
+    let Some(name) = matches.get_str("type") else {
+        return Err(WordFault::Bad);
+    };
+    let Some(digits) = matches.get_str("hex") else {
+        return Err(WordFault::Bad);
+    };
+    let Some(kind) = type_named(name) else {
+        return Err(WordFault::Bad);
+    };
+    match hex::decode(alloc, digits) {
+        Ok(bytes) => Ok(Command::Value { kind, bytes }),
+        Err(FromHexError::OutOfMemory) => Err(WordFault::NoMemory),
+        Err(_) => Err(WordFault::Bad),
+    }
+}
+
+fn show_in(alloc: Global, matches: &ArgMatches) -> Result<Command, WordFault>
+    ensures asked { IfOk result (IsNamed (codes "show") (first_value (found_of matches.now))) }
+    ensures refused { IfErr result (RefusedBy (IsNamed (codes "show") (first_value (found_of matches.now)))) }
+{
+    match matches.get_str("file") {
+        Some("-") => Ok(Command::Show(Capture::Input)),
+        Some(path) => match String::from_str(alloc, path) {
+            Ok(path) => Ok(Command::Show(Capture::File(path))),
+            Err(_) => Err(WordFault::NoMemory),
+        },
+        None => Err(WordFault::Bad),
+    }
+}
+
+/// The number of connections that a text is, from 1 to 65535.
+fn count_of(text: &str) -> Option<u16>
+    ensures { MatchOption result ((n : ℕ) → IsCount text.now n → ⊥) (IsCount text.now) }
+{
+    match text.parse::<u16>() {
+        Ok(0) => None,
+        Ok(n) => Some(n),
+        Err(_) => None,
+    }
+}
+
+fn source_of(alloc: Global, text: &str) -> Result<Source, AllocError>
+    ensures { IfOk result (IsSourceOf (Some text.now)) }
+{
+    match text {
+        "default" => Ok(Source::Default),
+        path => Ok(Source::File(String::from_str(alloc, path)?)),
+    }
+}
+
+fn serve_in(alloc: Global, matches: &ArgMatches) -> Result<Command, WordFault>
+    ensures asked { IfOk result (IsNamed (codes "serve") (first_value (found_of matches.now))) }
+    ensures refused { IfErr result (RefusedBy (IsNamed (codes "serve") (first_value (found_of matches.now)))) }
+{
+    let Some(settings) = matches.get_str("settings") else {
+        return Err(WordFault::Bad);
+    };
+    let Some(address) = matches.get_str("address") else {
+        return Err(WordFault::Bad);
+    };
+    let Some(connections) = matches.get_str("connections") else {
+        return Err(WordFault::Bad);
+    };
+    let Some(connections) = count_of(connections) else {
+        return Err(WordFault::Bad);
+    };
+    let Ok(address) = String::from_str(alloc, address) else {
+        return Err(WordFault::NoMemory);
+    };
+    match source_of(alloc, settings) {
+        Ok(source) => Ok(Command::Serve {
+            source,
+            address,
+            connections,
+        }),
+        Err(_) => Err(WordFault::NoMemory),
+    }
+}
+
+fn ask_in(alloc: Global, matches: &ArgMatches) -> Result<Command, WordFault>
+    ensures asked { IfOk result (IsNamed (codes "ask") (first_value (found_of matches.now))) }
+    ensures refused { IfErr result (RefusedBy (IsNamed (codes "ask") (first_value (found_of matches.now)))) }
+{
+    let Some(question) = matches.get_str("question") else {
+        return Err(WordFault::Bad);
+    };
+    let Some(address) = matches.get_str("address") else {
+        return Err(WordFault::Bad);
+    };
+    let Some(url) = matches.get_str("url") else {
+        return Err(WordFault::Bad);
+    };
+    let Some(question) = question_of(question) else {
+        return Err(WordFault::Bad);
+    };
+    if url.len() > LONGEST_URL {
+        return Err(WordFault::Bad);
+    }
+    let Ok(address) = String::from_str(alloc, address) else {
+        return Err(WordFault::NoMemory);
+    };
+    match String::from_str(alloc, url) {
+        Ok(url) => Ok(Command::Ask {
+            question,
+            address,
+            url,
+        }),
+        Err(_) => Err(WordFault::NoMemory),
+    }
+}

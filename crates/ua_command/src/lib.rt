@@ -1,0 +1,26 @@
+//! The command `uadisc`, over any reader, writers and links: what its words ask for, and what it prints, tells and answers.
+#![tactic(auto)]
+
+mod answer;
+mod ask;
+mod capture;
+mod command;
+mod file;
+mod frame_line;
+mod input;
+pub mod run;
+mod script;
+mod serve;
+mod settings;
+mod show;
+mod stop;
+mod text;
+mod type_names;
+mod value;
+
+pub use ask::{Question, ask_over};
+pub use command::{Command, WordsFault, command_of};
+pub use serve::{serve_on, status_with};
+pub use settings::Source;
+pub use show::Capture;
+pub use stop::Stop;

@@ -1,0 +1,106 @@
+//! What the command does, over any reader and writers.
+
+ghost use Rattle.std.specs.Prelude.{◌≡◌, map, IfOk, IfErr, IfSome, OnOk};
+ghost use Rattle.std.specs.Io.KnownBytes.{Appends};
+ghost use Rattle.ua_command.specs.Run.{Streams, IsDone, IsStop, LeavesInput, Runs};
+ghost use Rattle.ua_command.specs.Stop.{status_of, stop_text, IsQuiet};
+
+use crate::answer::answer;
+use crate::ask::ask;
+use crate::command::{Command, WordsFault, command_of};
+use crate::serve::serve;
+use crate::show::show;
+use crate::stop::{Stop, print};
+use crate::value::value;
+use std::io;
+use std::io::{Read, Write};
+use std::net::Net;
+use std::rt::{Clock, Files};
+
+/// Runs the command that the words are, which are those after the program's name, and gives the
+/// exit status: 0 done, 1 settings or input refused, a capture with a frame that is refused or cut, or a question that
+/// got no answer, 2 words refused, 3 a failed read or write, or a link that failed, 4 want of memory. Help and the
+/// version are printed on `output`, with status 0. What stopped the command is told on `errors`, where a failed write is
+/// passed over; `serve` tells there at which address it listens. The input is read by `answer` alone, and by `show` of
+/// standard input.
+pub fn run<R, I, O, E>(rt: &R, words: &[&str], input: &mut I, output: &mut O, errors: &mut E) -> u8
+where
+    R: Files + Net + Clock + AllocGlobal,
+    I: Read,
+    O: Write,
+    E: Write,
+    ensures runs { let streams : Streams = record { left = I.remaining input.old; printed = O.contents output.old; printed' = O.contents output.new; told = E.contents errors.old; told' = E.contents errors.new } in
+        Runs (map (λ w. w.now) words.entry.now) streams result }
+    ensures unread { LeavesInput (map (λ w. w.now) words.entry.now) (I.remaining input.old) (I.remaining input.new) }
+{
+    match done(rt, words, input, output, errors) {
+        Ok(status) => status,
+        Err(stop) => told(&stop, errors),
+    }
+}
+
+/// Tells what stopped the command, and gives the exit status; a failed write is passed over.
+pub fn told<E: Write>(stop: &Stop, errors: &mut E) -> u8
+    ensures { result ≡ status_of stop.now }
+{
+    let _ = tell(stop, errors);
+    stop.status()
+}
+
+/// Tells what stopped the command. After an error a beginning of it may stand there.
+fn tell<E: Write>(stop: &Stop, errors: &mut E) -> io::Result<()>
+    ensures { OnOk result (IfSome (stop_text stop.now) (Appends (E.contents errors.old) (E.contents errors.new))) }
+{
+    write!(errors, "{stop}")
+}
+
+/// Prints the text that the words ask for.
+fn shown<O: Write>(text: &str, output: &mut O) -> Result<u8, Stop>
+    ensures ok { IfOk result (λ status. (status ≡ 0) × Appends (O.contents output.old) (O.contents output.new) text.now) }
+    ensures err { IfErr result (λ e. e ≡ Stop.File) }
+{
+    print(output, text)?;
+    Ok(0)
+}
+
+/// Does what the words ask for.
+fn done<R, I, O, E>(
+    rt: &R,
+    words: &[&str],
+    input: &mut I,
+    output: &mut O,
+    errors: &mut E,
+) -> Result<u8, Stop>
+where
+    R: Files + Net + Clock + AllocGlobal,
+    I: Read,
+    O: Write,
+    E: Write,
+    ensures done { let streams : Streams = record { left = I.remaining input.old; printed = O.contents output.old; printed' = O.contents output.new; told = E.contents errors.old; told' = E.contents errors.new } in
+        IfOk result (IsDone (map (λ w. w.now) words.entry.now) streams) }
+    ensures err { IfErr result (IsStop (map (λ w. w.now) words.entry.now) (I.remaining input.old)) }
+    ensures quiet { IfErr result (λ stop. IsQuiet stop (O.contents output.old) (O.contents output.new)) }
+    ensures unread { LeavesInput (map (λ w. w.now) words.entry.now) (I.remaining input.old) (I.remaining input.new) }
+{
+    let command = match command_of(rt.alloc(), words) {
+        Ok(command) => command,
+        Err(WordsFault::Shown(text)) => return shown(text.as_str(), output),
+        Err(WordsFault::Refused(text)) => return Err(Stop::Words(text)),
+        Err(WordsFault::NoMemory) => return Err(Stop::NoMemory),
+    };
+    match command {
+        Command::Answer(source) => answer(rt, &source, input, output),
+        Command::Value { kind, bytes } => value(rt.alloc(), kind, bytes.as_slice(), output),
+        Command::Show(capture) => show(rt, &capture, input, output),
+        Command::Serve {
+            source,
+            address,
+            connections,
+        } => serve(rt, &source, address.as_str(), connections, output, errors),
+        Command::Ask {
+            question,
+            address,
+            url,
+        } => ask(rt, question, address.as_str(), url.as_str(), output, errors),
+    }
+}

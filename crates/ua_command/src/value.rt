@@ -1,0 +1,145 @@
+//! The command `value`: reads one value of a built-in type, and prints what it is.
+
+ghost use Rattle.std.specs.Prelude.{◌≡◌, ◌≤◌, length, IfOk, IfErr, string_bytes, Ok, Err};
+ghost use Rattle.ua_value.specs.Format.{Reads, input_limit};
+ghost use Rattle.ua_command.specs.Printed.{value_lines, shape_of, two_lines, Prints, PrintsOnto, RefusesOnto};
+ghost use Rattle.ua_command.specs.Stop.{IsFileStop, IsQuiet};
+ghost use Rattle.ua_variant.specs.declared.kind.Kind.TheVariants.{Guid as guid_type, NodeId as node_id_type};
+
+use crate::stop::{Stop, print};
+use crate::text::Node;
+use std::alloc::Global;
+use std::io::Write;
+use ua_value::{
+    DateTime, DoubleBits, ExpandedNodeId, FloatBits, Guid, LocalizedText, NoMemory, NodeId,
+    QualifiedName, ReadFault, StatusCode, UaBytes, UaString, Wire, XmlElement,
+};
+use ua_variant::{DataValue, DiagnosticInfo, ExtensionObject, Kind, Variant};
+
+/// The most bytes of one input, which no machine holds.
+const MOST_BYTES: usize = 1 << 60;
+
+/// A value that bytes begin with, how many of them spell it, and its canonical spelling.
+#[derive(Drop)]
+struct Found<T> {
+    value: T,
+    used: usize,
+    canon: Vec<u8>,
+}
+
+/// Reads a value from the beginning of the bytes, and spells it again.
+fn read_value<T: Wire>(alloc: Global, bytes: &[u8]) -> Result<Found<T>, ReadFault>
+    requires { length bytes.now ≤ input_limit }
+    ensures ok { IfOk result (λ x. Reads T.format bytes.now (Ok (x.value, x.used))) }
+    ensures canon { IfOk result (λ x. x.canon.items ≡ T.format.canon x.value) }
+    ensures err { IfErr result (λ e. Reads T.format bytes.now (Err e)) }
+{
+    let (value, used) = T::read(alloc, bytes)?;
+    let mut canon = Vec::new(alloc);
+    value.write(&mut canon)?;
+    Ok(Found { value, used, canon })
+}
+
+/// How many bytes were used, and the canonical spelling.
+fn lines(alloc: Global, used: usize, len: usize, canon: &[u8]) -> Result<String, NoMemory>
+    ensures { IfOk result (λ text. string_bytes text ≡ value_lines used len canon.now) }
+{
+    let digits = hex::encode(alloc, canon)?;
+    let mut text = format!(in alloc; "used {used} of {len}\n")?;
+    writeln!(text, "canon {digits}")?;
+    Ok(text)
+}
+
+/// The lines of a value of a type that has no third line.
+fn plain<T: Wire>(alloc: Global, bytes: &[u8]) -> Result<String, ReadFault>
+    requires { length bytes.now ≤ input_limit }
+    ensures ok { IfOk result (λ text. Prints (two_lines T.format) bytes.now (string_bytes text)) }
+    ensures err { IfErr result (λ e. Reads T.format bytes.now (Err e)) }
+{
+    let found = read_value::<T>(alloc, bytes)?;
+    let lines = lines(alloc, found.used, bytes.len(), found.canon.as_slice())?;
+    Ok(lines)
+}
+
+fn guid(alloc: Global, bytes: &[u8]) -> Result<String, ReadFault>
+    requires { length bytes.now ≤ input_limit }
+    ensures ok { IfOk result (λ text. Prints (shape_of guid_type) bytes.now (string_bytes text)) }
+    ensures err { IfErr result (λ e. Reads (shape_of guid_type).format bytes.now (Err e)) }
+{
+    let found = read_value::<Guid>(alloc, bytes)?;
+    let text = found.value.text(alloc)?;
+    let mut lines = lines(alloc, found.used, bytes.len(), found.canon.as_slice())?;
+    writeln!(lines, "text {text}")?;
+    Ok(lines)
+}
+
+fn node_id(alloc: Global, bytes: &[u8]) -> Result<String, ReadFault>
+    requires { length bytes.now ≤ input_limit }
+    ensures ok { IfOk result (λ text. Prints (shape_of node_id_type) bytes.now (string_bytes text)) }
+    ensures err { IfErr result (λ e. Reads (shape_of node_id_type).format bytes.now (Err e)) }
+{
+    let found = read_value::<NodeId>(alloc, bytes)?;
+    let mut lines = lines(alloc, found.used, bytes.len(), found.canon.as_slice())?;
+    writeln!(lines, "text {}", Node(&found.value))?;
+    Ok(lines)
+}
+
+/// The lines of a value of this type.
+fn lines_of(alloc: Global, kind: Kind, bytes: &[u8]) -> Result<String, ReadFault>
+    requires { length bytes.now ≤ input_limit }
+    ensures ok { IfOk result (λ text. Prints (shape_of kind) bytes.now (string_bytes text)) }
+    ensures err { IfErr result (λ e. Reads (shape_of kind).format bytes.now (Err e)) }
+{
+    match kind {
+        Kind::Boolean => plain::<bool>(alloc, bytes),
+        Kind::SByte => plain::<i8>(alloc, bytes),
+        Kind::Byte => plain::<u8>(alloc, bytes),
+        Kind::Int16 => plain::<i16>(alloc, bytes),
+        Kind::UInt16 => plain::<u16>(alloc, bytes),
+        Kind::Int32 => plain::<i32>(alloc, bytes),
+        Kind::UInt32 => plain::<u32>(alloc, bytes),
+        Kind::Int64 => plain::<i64>(alloc, bytes),
+        Kind::UInt64 => plain::<u64>(alloc, bytes),
+        Kind::Float => plain::<FloatBits>(alloc, bytes),
+        Kind::Double => plain::<DoubleBits>(alloc, bytes),
+        Kind::String => plain::<UaString>(alloc, bytes),
+        Kind::DateTime => plain::<DateTime>(alloc, bytes),
+        Kind::Guid => guid(alloc, bytes),
+        Kind::ByteString => plain::<UaBytes>(alloc, bytes),
+        Kind::XmlElement => plain::<XmlElement>(alloc, bytes),
+        Kind::NodeId => node_id(alloc, bytes),
+        Kind::ExpandedNodeId => plain::<ExpandedNodeId>(alloc, bytes),
+        Kind::StatusCode => plain::<StatusCode>(alloc, bytes),
+        Kind::QualifiedName => plain::<QualifiedName>(alloc, bytes),
+        Kind::LocalizedText => plain::<LocalizedText>(alloc, bytes),
+        Kind::ExtensionObject => plain::<ExtensionObject>(alloc, bytes),
+        Kind::DataValue => plain::<DataValue>(alloc, bytes),
+        Kind::Variant => plain::<Variant>(alloc, bytes),
+        Kind::DiagnosticInfo => plain::<DiagnosticInfo>(alloc, bytes),
+    }
+}
+
+/// Prints the value that the bytes begin with, or `refused` where they begin with none, and gives
+/// the exit status: 0, or 1 for `refused`. Nothing is printed before all lines are made.
+pub fn value<O: Write>(alloc: Global, kind: Kind, bytes: &[u8], output: &mut O) -> Result<u8, Stop>
+    ensures done { IfOk result (λ status. status ≡ 0 → PrintsOnto (shape_of kind) bytes.now (O.contents output.old) (O.contents output.new)) }
+    ensures refused { IfOk result (λ status. status ≡ 1 → RefusesOnto (shape_of kind) bytes.now (O.contents output.old) (O.contents output.new)) }
+    ensures status { IfOk result (λ status. status ≤ 1) }
+    ensures err { IfErr result IsFileStop }
+    ensures quiet { IfErr result (λ stop. IsQuiet stop (O.contents output.old) (O.contents output.new)) }
+{
+    if bytes.len() > MOST_BYTES {
+        return Err(Stop::NoMemory);
+    }
+    match lines_of(alloc, kind, bytes) {
+        Ok(text) => {
+            print(output, text.as_str())?;
+            Ok(0)
+        }
+        Err(ReadFault::Refused) => {
+            print(output, "refused\n")?;
+            Ok(1)
+        }
+        Err(ReadFault::NoMemory) => Err(Stop::NoMemory),
+    }
+}

@@ -1,0 +1,30 @@
+//! Tests of the command, by its public calls alone: over readers and writers of memory, files, and links over loopback.
+//!
+//! Proofs cover what the contracts say; here stands what no clause says: what is printed on the usual inputs, byte for byte, that no more is read
+//! than is needed, and that each growth may be refused.
+#![tactic(auto)]
+
+#[cfg(test)]
+mod answering;
+#[cfg(test)]
+mod asking;
+#[cfg(test)]
+mod failures;
+#[cfg(test)]
+mod link_words;
+#[cfg(test)]
+mod memory;
+#[cfg(test)]
+mod runs;
+#[cfg(test)]
+mod serving;
+#[cfg(test)]
+mod showing;
+#[cfg(test)]
+mod streams;
+#[cfg(test)]
+mod values;
+#[cfg(test)]
+mod vectors;
+#[cfg(test)]
+mod words;

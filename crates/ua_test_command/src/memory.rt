@@ -1,0 +1,98 @@
+//! Runs whose growths may be refused.
+
+use crate::answering::{ACKNOWLEDGED, HELLO};
+use crate::runs::Page;
+use std::net::Net;
+use std::process::Abort;
+use std::rt::{Clock, Files};
+use ua_command::run::run;
+
+/// Runs the words to their full answer, or to want of memory with nothing printed.
+fn expect_or_no_memory<R: Files + Net + Clock + AllocGlobal + Abort>(
+    rt: &R,
+    words: &[&str],
+    input: &str,
+    status: u8,
+    output: &str,
+    errors: &str,
+) {
+    let mut input = input.as_bytes();
+    let mut printed = Page::new(4096);
+    let mut told = Page::new(4096);
+    let given = run(rt, words, &mut input, &mut printed, &mut told);
+    if given == 4 {
+        assert_eq!(rt; printed.text(), b"".as_slice());
+        assert_eq!(rt; told.text(), b"memory\n".as_slice());
+    } else {
+        assert_eq!(rt; given, status);
+        assert_eq!(rt; printed.text(), output.as_bytes());
+        assert_eq!(rt; told.text(), errors.as_bytes());
+    }
+}
+
+#[test]
+fn answers_or_no_memory(rt: HostRuntime) {
+    expect_or_no_memory(&rt, &["answer", "default"], HELLO, 0, ACKNOWLEDGED, "");
+}
+
+#[test]
+fn stops_at_a_bad_line_or_no_memory(rt: HostRuntime) {
+    expect_or_no_memory(&rt, &["answer", "default"], "@7\n48\n4g", 1, "", "line 3\n");
+}
+
+#[test]
+fn prints_a_node_id_or_no_memory(rt: HostRuntime) {
+    let output = "used 7 of 7\ncanon 03000000000000\ntext s=\"\"\n";
+    expect_or_no_memory(
+        &rt,
+        &["value", "NodeId", "03000000000000"],
+        "",
+        0,
+        output,
+        "",
+    );
+}
+
+#[test]
+fn prints_a_guid_or_no_memory(rt: HostRuntime) {
+    let output =
+        "used 16 of 16\ncanon 912b967275fae64a8d28b404dc7daf63\ntext 72962b91-fa75-4ae6-8d28-b404dc7daf63\n";
+    let words = ["value", "Guid", "912B967275FAE64A8D28B404DC7DAF63"];
+    expect_or_no_memory(&rt, &words, "", 0, output, "");
+}
+
+#[test]
+fn tells_an_absent_file_or_no_memory(rt: HostRuntime) {
+    expect_or_no_memory(&rt, &["answer", "absent.toml"], "", 3, "", "file\n");
+}
+
+#[test]
+fn refuses_words_or_no_memory(rt: HostRuntime) {
+    expect_or_no_memory(&rt, &["value", "Boolean", "0"], "", 2, "", "words\n");
+}
+
+/// A writer over memory whose growth is refused is a failed write, with nothing written.
+#[test]
+fn prints_into_memory_or_no_memory(rt: HostRuntime) {
+    let mut input = HELLO.as_bytes();
+    let mut printed = Vec::new(rt.alloc());
+    let mut told = Page::new(4096);
+    match run(
+        &rt,
+        &["answer", "default"],
+        &mut input,
+        &mut printed,
+        &mut told,
+    ) {
+        0 => assert_eq!(rt; printed.as_slice(), ACKNOWLEDGED.as_bytes()),
+        3 => {
+            assert_eq!(rt; printed.as_slice(), b"".as_slice());
+            assert_eq!(rt; told.text(), b"file\n".as_slice());
+        }
+        status => {
+            assert_eq!(rt; status, 4);
+            assert_eq!(rt; printed.as_slice(), b"".as_slice());
+            assert_eq!(rt; told.text(), b"memory\n".as_slice());
+        }
+    }
+}

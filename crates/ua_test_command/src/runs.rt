@@ -1,0 +1,109 @@
+//! Runs of the command over readers and writers of memory, and what is expected of them.
+
+use crate::answering::HELLO;
+use std::io;
+use std::io::{Read, Write};
+use std::net::Net;
+use std::process::Abort;
+use std::rt::{Clock, Files};
+use ua_command::run::run;
+
+/// A writer with room for so many bytes, which takes no memory and fails behind them.
+#[derive(Drop)]
+pub struct Page {
+    bytes: [u8; 4096],
+    pub len: usize,
+    room: usize,
+}
+
+impl Page {
+    pub fn new(room: usize) -> Page {
+        Page {
+            bytes: [0; 4096],
+            len: 0,
+            room,
+        }
+    }
+
+    pub fn text(&self) -> &[u8] {
+        &self.bytes[..self.len.min(4096)]
+    }
+}
+
+impl Write for Page {
+    fn write(&mut self, buf: &[u8]) -> io::Result<usize> {
+        let start = self.len.min(4096);
+        let n = buf.len().min(self.room).min(4096 - start);
+        if n == 0 && !buf.is_empty() {
+            return Err(io::Error::from(io::ErrorKind::Other));
+        }
+        self.bytes[start..start + n].copy_from_slice(&buf[..n]);
+        self.len = start + n;
+        self.room -= n;
+        Ok(n)
+    }
+
+    fn flush(&mut self) -> io::Result<()> {
+        Ok(())
+    }
+}
+
+/// A reader that gives number signs one at a time, so many, and then ends or fails.
+#[derive(Drop)]
+pub struct Signs {
+    pub left: u32,
+    pub fails: bool,
+}
+
+impl Read for Signs {
+    fn read(&mut self, buf: &mut [u8]) -> io::Result<usize> {
+        if self.left == 0 {
+            return if self.fails {
+                Err(io::Error::from(io::ErrorKind::Other))
+            } else {
+                Ok(0)
+            };
+        }
+        let Some(first) = buf.first_mut() else {
+            return Ok(0);
+        };
+        *first = b'#';
+        self.left -= 1;
+        Ok(1)
+    }
+}
+
+/// Runs the words on an input, and compares what is printed and the exit status.
+pub fn expect<R: Files + Net + Clock + AllocGlobal + Abort>(
+    rt: &R,
+    words: &[&str],
+    input: &str,
+    status: u8,
+    output: &str,
+    errors: &str,
+) {
+    let mut input = input.as_bytes();
+    let mut printed = Page::new(4096);
+    let mut told = Page::new(4096);
+    assert_eq!(rt;
+        run(rt, words, &mut input, &mut printed, &mut told),
+        status,
+        "{output}{errors}"
+    );
+    assert_eq!(rt; printed.text(), output.as_bytes(), "{output}");
+    assert_eq!(rt; told.text(), errors.as_bytes(), "{errors}");
+}
+
+/// Runs words whose output has not enough room.
+pub fn expect_failed_write<R: Files + Net + Clock + AllocGlobal + Abort>(
+    rt: &R,
+    words: &[&str],
+    room: usize,
+) {
+    let mut input = HELLO.as_bytes();
+    let mut printed = Page::new(room);
+    let mut told = Page::new(4096);
+    assert_eq!(rt; run(rt, words, &mut input, &mut printed, &mut told), 3);
+    assert_eq!(rt; printed.text().len(), room);
+    assert_eq!(rt; told.text(), b"file\n".as_slice());
+}

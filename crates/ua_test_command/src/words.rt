@@ -1,0 +1,111 @@
+//! Words that are refused, with the reason, and words that ask for help or the version.
+
+use crate::runs::{Page, expect};
+use std::net::Net;
+use std::process::Abort;
+use std::rt::{Clock, Files};
+use ua_command::run::run;
+
+/// Runs words that clap refuses, and looks for its text and for nothing else.
+pub fn expect_refusal<R: Files + Net + Clock + AllocGlobal + Abort>(rt: &R, words: &[&str]) {
+    let mut input = b"4g".as_slice();
+    let mut printed = Page::new(4096);
+    let mut told = Page::new(4096);
+    assert_eq!(rt; run(rt, words, &mut input, &mut printed, &mut told), 2);
+    assert_eq!(rt; printed.text(), b"".as_slice());
+    assert_eq!(rt; input, b"4g".as_slice());
+    assert!(rt; told.text().len() > 20);
+    assert_eq!(rt; told.text().last(), Some(&b'\n'));
+}
+
+/// Whether some bytes have this text in them.
+fn has(bytes: &[u8], part: &str) -> bool {
+    for at in 0..bytes.len() {
+        if bytes[at..].starts_with(part.as_bytes()) {
+            return true;
+        }
+    }
+    false
+}
+
+/// Runs words that are refused, and looks for a part of the text.
+pub fn expect_reason<R: Files + Net + Clock + AllocGlobal + Abort>(
+    rt: &R,
+    words: &[&str],
+    part: &str,
+) {
+    let mut input = b"4g".as_slice();
+    let mut printed = Page::new(4096);
+    let mut told = Page::new(4096);
+    assert_eq!(rt; run(rt, words, &mut input, &mut printed, &mut told), 2);
+    assert_eq!(rt; printed.text(), b"".as_slice());
+    assert!(rt; has(told.text(), part), "{part}");
+}
+
+/// Runs words that ask for a text, and looks for a part of it.
+fn expect_text<R: Files + Net + Clock + AllocGlobal + Abort>(rt: &R, words: &[&str], part: &str) {
+    let mut input = b"4g".as_slice();
+    let mut printed = Page::new(4096);
+    let mut told = Page::new(4096);
+    assert_eq!(rt; run(rt, words, &mut input, &mut printed, &mut told), 0);
+    assert_eq!(rt; told.text(), b"".as_slice());
+    assert_eq!(rt; input, b"4g".as_slice());
+    assert!(rt; has(printed.text(), part), "{part}");
+}
+
+#[test]
+fn refuses_words(rt: HostRuntime) {
+    for (kind, digits) in [("Boolean", "0"), ("Boolean", "0g"), ("Boolean", "0 0")] {
+        expect(&rt, &["value", kind, digits], "4g", 2, "", "words\n");
+    }
+    for word in ["answer", "default", "value", ""] {
+        expect_refusal(&rt, &[word]);
+    }
+    expect_refusal(&rt, &[]);
+    expect_refusal(&rt, &["answer", "--other"]);
+    expect_refusal(&rt, &["answer", "default", "default"]);
+    expect_refusal(&rt, &["value", "Boolean"]);
+    expect_refusal(&rt, &["value", "Boolean", "00", "00"]);
+    expect_refusal(&rt, &["value", "Decimal", "00"]);
+    expect_refusal(&rt, &["value", "boolean", "00"]);
+    expect_refusal(&rt, &["value", "", "00"]);
+    expect_refusal(&rt, &["help", "other"]);
+}
+
+#[test]
+fn says_which_name_is_near(rt: HostRuntime) {
+    expect_reason(&rt, &["value", "nodeid", "00"], "'NodeId'");
+    expect_reason(&rt, &["value", "Decimal", "00"], "DiagnosticInfo");
+    expect_reason(&rt, &["answe", "default"], "'answer'");
+    expect_reason(&rt, &["value", "Boolean"], "uadisc value <TYPE> <HEX>");
+}
+
+#[test]
+fn shows_help_and_the_version(rt: HostRuntime) {
+    for word in ["--help", "-h", "help"] {
+        expect_text(&rt, &[word], "Usage: uadisc <COMMAND>");
+        expect_text(&rt, &[word], "  answer  ");
+    }
+    for word in ["--version", "-V"] {
+        expect_text(&rt, &[word], "uadisc 0.1.0 (rattle-kit-");
+    }
+    expect_text(
+        &rt,
+        &["answer", "--help"],
+        "Usage: uadisc answer <SETTINGS>",
+    );
+    expect_text(&rt, &["help", "value"], "Usage: uadisc value <TYPE> <HEX>");
+    expect_text(&rt, &["value", "-h"], "NodeId");
+    expect_text(&rt, &["show", "--help"], "Usage: uadisc show <FILE>");
+    expect_text(
+        &rt,
+        &["serve", "--help"],
+        "Usage: uadisc serve --connections <N> <SETTINGS> <ADDR>",
+    );
+    expect_text(
+        &rt,
+        &["help", "ask"],
+        "Usage: uadisc ask <WHAT> <ADDR> <URL>",
+    );
+    expect_text(&rt, &["ask", "-h"], "find, endpoints");
+}

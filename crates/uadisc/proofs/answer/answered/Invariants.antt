@@ -1,8 +1,0 @@
-use Rattle.std.proofs.Common.{◌≡◌, map, take}
-use Rattle.ua_frame.specs.Streams.{pieces_of}
-use Rattle.uadisc.specs.Answer.{piece_of}
-use Rattle.uadisc.specs.Script.{times}
-use Rattle.uadisc.proofs.answer.answered.Given as goal
-
-abbrev pub invariant-pieces : goal.invariant-pieces
-invariant-pieces l = pieces_of l.lent.items ≡ map piece_of (times (take l.piece-index l.pieces))

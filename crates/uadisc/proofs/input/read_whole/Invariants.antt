@@ -1,5 +1,0 @@
-use Rattle.std.specs.Io.KnownBytes.{Consumes}
-use Rattle.uadisc.proofs.input.read_whole.Given as goal
-
-abbrev pub invariant-reads : goal.invariant-reads
-invariant-reads g l = Consumes (g.I.Read.remaining l.initial.input) (g.I.Read.remaining l.input) l.all.items

@@ -1,8 +1,0 @@
-use Rattle.std.proofs.Common.{sym, arith}
-use Rattle.uadisc.specs.Script.{script_in}
-use Rattle.uadisc.proofs.Lines.{onto-none}
-use Rattle.uadisc.proofs.script.script_of.Goals as goal
-
-pub lines-init : goal.lines-init
-unfolding script_in
-lines-init c = record { told = rw c.new.ensures.items (sym (onto-none _)); counted = omega arith }

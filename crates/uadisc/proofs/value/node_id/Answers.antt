@@ -1,5 +1,0 @@
-use Rattle.std.proofs.Common.{rules}
-use Rattle.uadisc.proofs.value.node_id.Goals as goal
-
-pub returns-clause-ok : goal.returns-clause-ok
-returns-clause-ok c = ((c.in_ok-found.found.value, c.in_ok-found.found.used), c.in_ok-found.ensures.ok, search rules)
