@@ -66,13 +66,6 @@ class Rooms:
         if os.path.isdir(f"{out}/incremental") and (crate.places or not built):
             shutil.copytree(f"{out}/incremental", f"{to}/out/incremental")
 
-    def has_library(self, crate):
-        return os.path.isfile(f"{self.top}/kept/{crate.name}/out/rlib/stamp")
-
-    def has_new_work(self, crate):
-        """Whether the work that is kept of a crate is newer than its sources."""
-        return newest_of(crate) < newest(f"{self.top}/kept/{crate.name}/out/incremental")
-
     def forget_work(self, crate):
         """Makes room on the disk: the crates above need the library alone."""
         shutil.rmtree(f"{self.top}/kept/{crate.name}/out/incremental", ignore_errors=True)
@@ -91,11 +84,13 @@ class Rooms:
         write(f"{room}/crates.txt", "".join(f"{it.line}\n" for it in [*crate.below, crate]))
         return room
 
-    def close(self, crate, room, keeps=False):
-        if keeps:
-            kept = f"{self.top}/kept/{crate.name}/out"
-            shutil.rmtree(kept, ignore_errors=True)
-            shutil.move(f"{room}/crates/{crate.name}/out", kept)
+    def close(self, crate, room, *kept):
+        """Removes a room, and keeps parts of what its check left."""
+        for part in kept:
+            made, to = f"{room}/crates/{crate.name}/out/{part}", f"{self.top}/kept/{crate.name}/out/{part}"
+            if os.path.isdir(made):
+                shutil.rmtree(to, ignore_errors=True)
+                shutil.move(made, to)
         shutil.rmtree(room, ignore_errors=True)
 
 
@@ -151,9 +146,9 @@ UNREAD = re.compile(r"(?:\./)?src/\S+\.rt:\d+:\d+: error: (?!`[^`]*`: )|(?:\./)?
 
 
 def verdicts_of(said):
-    """What a check said of each function, by its path below the crate; none where it did not reach the prover."""
+    """What a check said of each function, or of each that it was asked for, by its path below the crate; none where it did not reach the prover."""
     lines = said.split("\n")
-    if not any(it.startswith(("logic=proved", "logic=not-proved")) for it in lines) or any(map(UNREAD.match, lines)):
+    if not any(it.startswith(("logic=proved", "logic=not-proved", "only=")) for it in lines) or any(map(UNREAD.match, lines)):
         return None
     verdicts, notes = {}, []
     for line in lines:
@@ -234,6 +229,20 @@ def paths_of(function, verdicts):
     owned = [it for it in named if before[it] and is_owner(before[it][-1], function.owner)]
     # (the methods of a type stand in the module of the type, in whatever file its `impl` is)
     return [it for it in owned if before[it][:-1] == module] or owned
+
+
+def only_of(batch, control, verdicts):
+    """The words that ask a check for the functions of a batch and its control alone; none where one of them has no name in what was said of the crate."""
+    named = [paths_of(it, verdicts) for it in [*(function for place in batch for function in place.functions), *([control] if control else [])]]
+    if not all(named) or not all(place.functions for place in batch):
+        return []
+    return [it for path in dict.fromkeys(path for paths in named for path in paths) for it in ("--only", "::".join(path))]
+
+
+def said_by_ci(path):
+    """What `rt ci` said of each crate that it proved, by its name."""
+    parts = re.findall(r"^== (\w+)\n(.*?)^rt: \1 proved$", read(path), re.M | re.S)
+    return dict(parts)
 
 
 class Checked:

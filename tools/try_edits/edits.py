@@ -11,8 +11,9 @@ FOLDERS = ("must-fail", "wrong-bodies")
 Pair = collections.namedtuple("Pair", "file old new")
 # A function, what it stands in (`impl Wire for u32`), and the numbers of its lines: the first, that with the brace of its body, the last.
 Function = collections.namedtuple("Function", "file name owner first body last")
-# What is judged as one: some pairs of an edit, the line of the first, and the functions that they change; none where they change what is no body.
-Place = collections.namedtuple("Place", "edit pairs line functions")
+# What is judged as one: some pairs of an edit, the line of the first, and the functions that they change. What changes no body
+# (a `const`, a field, a `use`) is checked alone, and judged by the functions that the other pairs change or that name the `const`.
+Place = collections.namedtuple("Place", "edit pairs line functions is_alone")
 
 
 def read(path):
@@ -122,10 +123,24 @@ def function_at(functions, line, pair):
     return found[-1] if found else None
 
 
+CONST = re.compile(r"\b([A-Z][A-Z0-9_]+): ")
+
+
+def readers_of(crate, pair):
+    """The functions that name the `const` which a pair changes."""
+    named = CONST.search(pair.old)
+    for path in sources(crate.folder) if named else ():
+        text = read(path)
+        lines = text.split("\n")
+        for it in functions_of(os.path.relpath(path, crate.folder), text):
+            if re.search(rf"\b{named[1]}\b", "\n".join(lines[it.body - 1 : it.last])):
+                yield it
+
+
 def places_of(crate, edit):
     """The places of an edit, or why it cannot be applied."""
     pairs = list(pairs_of(read(edit)))
-    texts, places, is_one = {}, [], False
+    texts, places, is_one, is_alone = {}, [], False, False
     if not pairs:
         return [], "it has no pair of old and new"
     for pair in pairs:
@@ -141,13 +156,13 @@ def places_of(crate, edit):
         at = source.find(pair.old)
         line = source[: max(at, 0)].count("\n") + 1
         function = function_at(functions_of(pair.file, source), line, pair)
+        is_alone = is_alone or function is None
         is_one = is_one or source.count(pair.old) != 1 or function is None
-        places.append(Place(edit, [pair], line, [function]))
+        places.append(Place(edit, [pair], line, [function] if function else list(readers_of(crate, pair)), False))
     if not is_one:
         return places, None
-    functions = [it.functions[0] for it in places]
-    functions = [] if None in functions else list(dict.fromkeys(functions))
-    return [Place(edit, pairs, places[0].line, functions)], None
+    functions = list(dict.fromkeys(function for it in places for function in it.functions))
+    return [Place(edit, pairs, places[0].line, functions, is_alone)], None
 
 
 def edits_of(crate):
@@ -167,15 +182,16 @@ def key_of(function):
 
 
 def batches_of(places):
-    """Groups the places, so that no function is changed twice in a group. What changes no body, or is several pairs, is a group of its own."""
+    """Groups the places, the largest group first, so that no function is changed twice in a group. What changes no body, or is several pairs, is a group of its own."""
     batches = []
     for place in places:
+        is_alone = place.is_alone or len(place.pairs) > 1
         keys = {key_of(it) for it in place.functions}
-        for batch, taken in batches:
-            if keys and taken and not keys & taken and len(place.pairs) == len(batch[0].pairs) == 1:
+        for batch, taken in [] if is_alone else batches:
+            if taken and not keys & taken:
                 batch.append(place)
                 taken |= keys
                 break
         else:
-            batches.append(([place], keys))
-    return [batch for batch, _ in batches]
+            batches.append(([place], set() if is_alone else keys))
+    return sorted((batch for batch, _ in batches), key=len, reverse=True)
