@@ -12,6 +12,8 @@ mod fault;
 mod flagged;
 mod from_plain;
 mod kind;
+mod leaf;
+mod leaves;
 mod making;
 mod parts;
 mod picoseconds;

@@ -14,6 +14,7 @@ ghost use Rattle.ua_variant.specs.View.{kind_of, element, items_in, body_of, dat
 use crate::diagnostic::DiagnosticInfo;
 use crate::element::leaf_front;
 use crate::kind::Kind;
+use crate::leaves::each_leaf;
 use crate::shape::shape_front;
 use crate::stamps::Stamps;
 use crate::variant::{Body, DataValue, Element, Variant};
@@ -170,6 +171,9 @@ fn each_within(
     ensures shorter { IfOk result (λ x. length x.1.now ≤ length input.now) }
     ensures counted { IfOk result (λ x. length x.0.items ≡ count) }
 {
+    if !matches!(kind, Kind::DataValue | Kind::Variant | Kind::DiagnosticInfo) {
+        return each_leaf(alloc, kind, count, input);
+    }
     let mut items = Vec::new(alloc);
     let mut rest = input;
     for _ in 0..count {

@@ -1,0 +1,315 @@
+//! Types of plain values, as what stands in a Variant.
+
+ghost use Rattle.std.specs.Prelude.{◌≡◌, ◌≤◌, ℕ};
+ghost use Rattle.ua_variant.specs.Kinds as kinds;
+ghost use Rattle.ua_variant.specs.Values as values;
+ghost use Rattle.ua_variant.specs.Reading.{leaf_of};
+ghost use Rattle.ua_variant.specs.View.{element};
+
+use crate::extension::ExtensionObject;
+use crate::variant::Element;
+use ua_value::{
+    DateTime, DoubleBits, ExpandedNodeId, FloatBits, Guid, LocalizedText, NodeId, QualifiedName,
+    StatusCode, UaBytes, UaString, Wire, XmlElement,
+};
+
+/// The type of the values of one plain kind. A list of such values is read by a loop of the type.
+pub(crate) trait Leaf: Wire {
+    // the value as what stands in a Variant
+    ghost wrap: { Self → values.Element };
+
+    /// The value as an element.
+    fn into_element(self) -> Element
+        ensures { element result ≡ wrap self };
+
+    /// How many values so many bytes can spell, where each takes the same number of bytes. It is 0 where they do not:
+    /// then the bytes do not tell how many values they hold, and a list of them grows as they come.
+    fn most_in(bytes: usize) -> usize
+        ensures { result ≤ bytes };
+}
+
+impl Leaf for bool {
+    ghost wrap = { leaf_of kinds.boolean };
+
+    #[inline(always)]
+    fn into_element(self) -> Element {
+        Element::Boolean(self)
+    }
+
+    fn most_in(bytes: usize) -> usize {
+        bytes
+    }
+}
+
+impl Leaf for i8 {
+    ghost wrap = { leaf_of kinds.sbyte };
+
+    #[inline(always)]
+    fn into_element(self) -> Element {
+        Element::SByte(self)
+    }
+
+    fn most_in(bytes: usize) -> usize {
+        bytes
+    }
+}
+
+impl Leaf for u8 {
+    ghost wrap = { leaf_of kinds.byte };
+
+    #[inline(always)]
+    fn into_element(self) -> Element {
+        Element::Byte(self)
+    }
+
+    fn most_in(bytes: usize) -> usize {
+        bytes
+    }
+}
+
+impl Leaf for i16 {
+    ghost wrap = { leaf_of kinds.int16 };
+
+    #[inline(always)]
+    fn into_element(self) -> Element {
+        Element::Int16(self)
+    }
+
+    fn most_in(bytes: usize) -> usize {
+        bytes / 2
+    }
+}
+
+impl Leaf for u16 {
+    ghost wrap = { leaf_of kinds.uint16 };
+
+    #[inline(always)]
+    fn into_element(self) -> Element {
+        Element::UInt16(self)
+    }
+
+    fn most_in(bytes: usize) -> usize {
+        bytes / 2
+    }
+}
+
+impl Leaf for i32 {
+    ghost wrap = { leaf_of kinds.int32 };
+
+    #[inline(always)]
+    fn into_element(self) -> Element {
+        Element::Int32(self)
+    }
+
+    fn most_in(bytes: usize) -> usize {
+        bytes / 4
+    }
+}
+
+impl Leaf for u32 {
+    ghost wrap = { leaf_of kinds.uint32 };
+
+    #[inline(always)]
+    fn into_element(self) -> Element {
+        Element::UInt32(self)
+    }
+
+    fn most_in(bytes: usize) -> usize {
+        bytes / 4
+    }
+}
+
+impl Leaf for i64 {
+    ghost wrap = { leaf_of kinds.int64 };
+
+    #[inline(always)]
+    fn into_element(self) -> Element {
+        Element::Int64(self)
+    }
+
+    fn most_in(bytes: usize) -> usize {
+        bytes / 8
+    }
+}
+
+impl Leaf for u64 {
+    ghost wrap = { leaf_of kinds.uint64 };
+
+    #[inline(always)]
+    fn into_element(self) -> Element {
+        Element::UInt64(self)
+    }
+
+    fn most_in(bytes: usize) -> usize {
+        bytes / 8
+    }
+}
+
+impl Leaf for FloatBits {
+    ghost wrap = { leaf_of kinds.float };
+
+    #[inline(always)]
+    fn into_element(self) -> Element {
+        Element::Float(self)
+    }
+
+    fn most_in(bytes: usize) -> usize {
+        bytes / 4
+    }
+}
+
+impl Leaf for DoubleBits {
+    ghost wrap = { leaf_of kinds.double };
+
+    #[inline(always)]
+    fn into_element(self) -> Element {
+        Element::Double(self)
+    }
+
+    fn most_in(bytes: usize) -> usize {
+        bytes / 8
+    }
+}
+
+impl Leaf for UaString {
+    ghost wrap = { leaf_of kinds.string };
+
+    #[inline(always)]
+    fn into_element(self) -> Element {
+        Element::String(self)
+    }
+
+    fn most_in(_bytes: usize) -> usize {
+        0
+    }
+}
+
+impl Leaf for DateTime {
+    ghost wrap = { leaf_of kinds.date_time };
+
+    #[inline(always)]
+    fn into_element(self) -> Element {
+        Element::DateTime(self)
+    }
+
+    fn most_in(bytes: usize) -> usize {
+        bytes / 8
+    }
+}
+
+impl Leaf for Guid {
+    ghost wrap = { leaf_of kinds.guid };
+
+    #[inline(always)]
+    fn into_element(self) -> Element {
+        Element::Guid(self)
+    }
+
+    fn most_in(bytes: usize) -> usize {
+        bytes / 16
+    }
+}
+
+impl Leaf for UaBytes {
+    ghost wrap = { leaf_of kinds.byte_string };
+
+    #[inline(always)]
+    fn into_element(self) -> Element {
+        Element::ByteString(self)
+    }
+
+    fn most_in(_bytes: usize) -> usize {
+        0
+    }
+}
+
+impl Leaf for XmlElement {
+    ghost wrap = { leaf_of kinds.xml_element };
+
+    #[inline(always)]
+    fn into_element(self) -> Element {
+        Element::XmlElement(self)
+    }
+
+    fn most_in(_bytes: usize) -> usize {
+        0
+    }
+}
+
+impl Leaf for NodeId {
+    ghost wrap = { leaf_of kinds.node_id };
+
+    #[inline(always)]
+    fn into_element(self) -> Element {
+        Element::NodeId(self)
+    }
+
+    fn most_in(_bytes: usize) -> usize {
+        0
+    }
+}
+
+impl Leaf for ExpandedNodeId {
+    ghost wrap = { leaf_of kinds.expanded_node_id };
+
+    #[inline(always)]
+    fn into_element(self) -> Element {
+        Element::ExpandedNodeId(self)
+    }
+
+    fn most_in(_bytes: usize) -> usize {
+        0
+    }
+}
+
+impl Leaf for StatusCode {
+    ghost wrap = { leaf_of kinds.status_code };
+
+    #[inline(always)]
+    fn into_element(self) -> Element {
+        Element::StatusCode(self)
+    }
+
+    fn most_in(bytes: usize) -> usize {
+        bytes / 4
+    }
+}
+
+impl Leaf for QualifiedName {
+    ghost wrap = { leaf_of kinds.qualified_name };
+
+    #[inline(always)]
+    fn into_element(self) -> Element {
+        Element::QualifiedName(self)
+    }
+
+    fn most_in(_bytes: usize) -> usize {
+        0
+    }
+}
+
+impl Leaf for LocalizedText {
+    ghost wrap = { leaf_of kinds.localized_text };
+
+    #[inline(always)]
+    fn into_element(self) -> Element {
+        Element::LocalizedText(self)
+    }
+
+    fn most_in(_bytes: usize) -> usize {
+        0
+    }
+}
+
+impl Leaf for ExtensionObject {
+    ghost wrap = { leaf_of kinds.extension_object };
+
+    #[inline(always)]
+    fn into_element(self) -> Element {
+        Element::ExtensionObject(self)
+    }
+
+    fn most_in(_bytes: usize) -> usize {
+        0
+    }
+}
