@@ -41,7 +41,8 @@ pub(crate) fn levels_in(items: &Option<Vec<Element>>) -> u8
 }
 
 impl Variant {
-    /// The Variant whose contents are given.
+    /// The Variant whose contents are given. Plain elements are not looked at.
+    #[tactic(auto, using(crate::proofs::Made::plain_depth))]
     pub(crate) fn of(body: Body) -> Variant
         requires { IsVariant (body_of body) }
         ensures { result ≡ body_of body }
@@ -49,7 +50,7 @@ impl Variant {
         let inside = match &body {
             Body::Null => 0,
             Body::One(one) => one.depth(),
-            Body::Array(_, items, _) => levels_in(items),
+            Body::Array(kind, items, _) => { if kind.is_plain() { 0 } else { levels_in(items) } }
         };
         Variant {
             levels: inside + 1,

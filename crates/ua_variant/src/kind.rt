@@ -1,6 +1,6 @@
 //! The kinds of built-in values.
 
-ghost use Rattle.std.specs.Prelude.{◌≡◌, ◌≤◌, option_map};
+ghost use Rattle.std.specs.Prelude.{◌≡◌, ◌≤◌, ◌↔◌, IsTrue, option_map};
 ghost use Rattle.ua_variant.specs.Kinds.{kind_number, kind_named};
 ghost use Rattle.ua_variant.specs.KindNames.{kind_name};
 ghost use Rattle.ua_variant.specs.View.{kind_of};
@@ -100,6 +100,13 @@ impl Kind {
         ensures most { result ≤ 25 }
     {
         self as u8
+    }
+
+    /// The values of the kind hold no Variant, DataValue or DiagnosticInfo.
+    pub(crate) fn is_plain(self) -> bool
+        ensures { IsTrue result ↔ (kind_number (kind_of self) ≤ 22) }
+    {
+        !matches!(self, Kind::DataValue | Kind::Variant | Kind::DiagnosticInfo)
     }
 
     /// The kind that a Variant's first byte names in its bits 0 to 5 (OPC 10000-6, 5.2.2.16): 26 to

@@ -158,6 +158,7 @@ fn list_within(
 
 /// As many elements as the count says, one after another.
 #[cycle(read)]
+#[tactic(auto, using(crate::proofs::PlainSteps::plain_items))]
 fn each_within(
     alloc: Global,
     kind: Kind,
@@ -171,7 +172,7 @@ fn each_within(
     ensures shorter { IfOk result (λ x. length x.1.now ≤ length input.now) }
     ensures counted { IfOk result (λ x. length x.0.items ≡ count) }
 {
-    if !matches!(kind, Kind::DataValue | Kind::Variant | Kind::DiagnosticInfo) {
+    if kind.is_plain() {
         return each_leaf(alloc, kind, count, input);
     }
     let mut items = Vec::new(alloc);
