@@ -5,7 +5,8 @@ use crate::values::LONGEST;
 use std::alloc::Global;
 use ua_conn::{AskFault, Client, ClientConfig, ClientFault};
 use ua_service::{Request, read_request};
-use ua_value::{UaString, let_go};
+use ua_value::UaString;
+use ua_value::plumbing::let_go;
 
 /// The url of every Hello.
 const URL: &str = "opc.tcp://localhost:4840";

@@ -3,7 +3,7 @@
 ghost use Rattle.std.specs.Prelude.{◌≡◌};
 ghost use Rattle.ua_chunk.specs.Layout.{abort_of};
 
-use ua_value::{front_u32, string_front};
+use ua_value::plumbing::{front_u32, string_front};
 
 /// The status of the abort with this body, if it is one.
 #[tactic(auto, unfolding(crate::specs::Layout::abort_of, crate::specs::Layout::abort_body))]

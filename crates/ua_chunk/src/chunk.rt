@@ -6,7 +6,7 @@ ghost use Rattle.ua_chunk.specs.Layout.{chunk_of, chunk_in, with_flag};
 use std::marker::Model;
 use ua_frame::status::BAD_DECODING_ERROR;
 use ua_frame::{Frame, Kind};
-use ua_value::front_u32;
+use ua_value::plumbing::front_u32;
 
 /// What a MSG or CLO frame carries, lent from it. OPC 10000-6, 6.7.2.3 and 6.7.2.4.
 #[derive(Drop)]

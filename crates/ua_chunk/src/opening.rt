@@ -6,7 +6,7 @@ ghost use Rattle.ua_chunk.specs.Layout.{open_chunk_of, open_chunk_in};
 use std::marker::Model;
 use ua_frame::status::BAD_DECODING_ERROR;
 use ua_frame::{Frame, Kind};
-use ua_value::{bytes_front, front_u32, string_front};
+use ua_value::plumbing::{bytes_front, front_u32, string_front};
 
 /// What an OPN frame carries, lent from it. OPC 10000-6, 6.7.2.3 and 6.7.2.4.
 #[derive(Drop)]

@@ -49,7 +49,7 @@ opaque_text (Some bytes) = codes "b=" ++ flat_map two_digits bytes
 
 abbrev pub identifier_text : Identifier → List ℕ
 identifier_text (identifiers.Numeric id) = codes "i=" ++ decimal id
-identifier_text (identifiers.Text text) = codes "s=" ++ quoted text
+identifier_text (identifiers.String text) = codes "s=" ++ quoted text
 identifier_text (identifiers.Guid guid) = codes "g=" ++ hyphenated_text lower (digits_of guid)
 identifier_text (identifiers.Opaque bytes) = opaque_text bytes
 
@@ -57,7 +57,7 @@ abbrev pub namespace_text : ℕ → List ℕ
 namespace_text namespace = if namespace == 0 then [] else codes "ns=" ++ decimal namespace ++ codes ";"
 
 abbrev pub node_text : NodeId → List ℕ
-node_text node = namespace_text node.namespace ++ identifier_text node.identifier
+node_text node = namespace_text node.namespace_index ++ identifier_text node.identifier
 
 -- a status as eight hex digits in upper case
 abbrev pub status_text : ℕ → List ℕ

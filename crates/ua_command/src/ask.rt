@@ -17,7 +17,8 @@ use std::rt::Clock as HostClock;
 use ua_conn::{Answer, AnswerResult, AskFault, Client, ClientConfig, ClientFault};
 use ua_link::{ClientTurn, Clock, Link, MachineClock, TcpLink, pump_client, send_output};
 use ua_service::{FindServersRequest, GetEndpointsRequest, Request, request_header};
-use ua_value::{Array, DateTime, NoMemory, UaString, let_go};
+use ua_value::plumbing::let_go;
+use ua_value::{Array, DateTime, NoMemory, UaString};
 
 /// What can be asked for.
 #[derive(Clone, Copy, Debug, PartialEq, Eq)]

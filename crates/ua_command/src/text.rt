@@ -108,13 +108,13 @@ impl fmt::Display for Node<'_> {
     ghost output = { λ n. Some (node_text n.0.now) };
 
     fn fmt<W: fmt::Write>(&self, f: &mut fmt::Formatter<W>) -> fmt::Result {
-        let namespace = self.0.namespace;
+        let namespace = self.0.namespace_index;
         if namespace != 0 {
             write!(f, "ns={namespace};")?;
         }
         match &self.0.identifier {
             Identifier::Numeric(id) => write!(f, "i={id}"),
-            Identifier::Text(text) => write!(f, "s={}", Text(text.get().map(str::as_bytes))),
+            Identifier::String(text) => write!(f, "s={}", Text(text.get().map(str::as_bytes))),
             Identifier::Guid(guid) => write!(f, "g={guid}"),
             Identifier::Opaque(bytes) => match bytes.get() {
                 Some(bytes) => write!(f, "b={}", Hex(bytes)),

@@ -6,7 +6,8 @@ ghost use Rattle.ua_disco.specs.Answers.{described};
 
 use crate::names::Names;
 use ua_service::ApplicationDescription;
-use ua_value::{Array, LocalizedText, NoMemory, Parts, UaString, copy_three};
+use ua_value::plumbing::{Parts, copy_three};
+use ua_value::{Array, LocalizedText, NoMemory, UaString};
 
 /// An application as it is set up (OPC 10000-4, 7.2), with its name in several languages.
 #[derive(Drop)]

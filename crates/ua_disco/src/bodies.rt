@@ -19,7 +19,8 @@ use ua_service::encoding::{FIND_SERVERS_RESPONSE, GET_ENDPOINTS_RESPONSE};
 use ua_service::{
     FindServersRequest, GetEndpointsRequest, Request, ResponseHeader, body_of, response_header,
 };
-use ua_value::{NoMemory, NodeId, Parts, let_go};
+use ua_value::plumbing::{Parts, let_go};
+use ua_value::{NoMemory, NodeId};
 
 /// The room that a body begins with, in bytes, which most answers fit in.
 const ROOM: usize = 512;

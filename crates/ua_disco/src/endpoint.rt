@@ -6,9 +6,8 @@ ghost use Rattle.ua_disco.specs.Answers.{described_endpoint};
 
 use crate::application::Application;
 use ua_service::{EndpointDescription, UserTokenPolicy};
-use ua_value::{
-    Array, LocalizedText, NoMemory, Parts, UaBytes, UaString, Wire, copy_three, copy_two,
-};
+use ua_value::plumbing::{Parts, copy_three, copy_two};
+use ua_value::{Array, LocalizedText, NoMemory, UaBytes, UaString, Wire};
 
 /// An endpoint as it is set up (OPC 10000-4, 7.14).
 #[derive(Drop)]

@@ -7,7 +7,8 @@ ghost use Rattle.ua_value.specs.Whole.{ReadsAll};
 use crate::frame::Frame;
 use crate::kind::Kind;
 use crate::writing::write_frame;
-use ua_value::{NoMemory, ReadFault, front_u32};
+use ua_value::plumbing::front_u32;
+use ua_value::{NoMemory, ReadFault};
 
 /// What the server agrees to, the `ACK` frame. OPC 10000-6, 7.1.2.4.
 #[derive(Clone, Copy, Debug, PartialEq, Eq)]

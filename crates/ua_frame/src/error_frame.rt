@@ -8,7 +8,8 @@ use crate::frame::Frame;
 use crate::kind::Kind;
 use crate::writing::write_frame;
 use std::alloc::Global;
-use ua_value::{NoMemory, ReadFault, UaString, Wire, read_whole};
+use ua_value::plumbing::read_whole;
+use ua_value::{NoMemory, ReadFault, UaString, Wire};
 
 /// An end's last frame before it gives up the connection, `ERR`. OPC 10000-6, 7.1.2.5.
 #[derive(Debug, Drop)]

@@ -8,7 +8,8 @@ use crate::frame::Frame;
 use crate::kind::Kind;
 use crate::writing::write_frame;
 use std::alloc::Global;
-use ua_value::{NoMemory, ReadFault, UaString, Wire, read_whole};
+use ua_value::plumbing::read_whole;
+use ua_value::{NoMemory, ReadFault, UaString, Wire};
 
 /// What a client says of itself, the `HEL` frame. OPC 10000-6, 7.1.2.3.
 #[derive(Debug, Drop)]

@@ -4,7 +4,8 @@ ghost use Rattle.std.specs.Prelude.{◌≡◌, ◌+◌, ◌<◌, ◌^◌, ◌++�
 ghost use Rattle.ua_frame.specs.Layout.{frame_bytes};
 
 use crate::kind::Kind;
-use ua_value::{NoMemory, Parts, Sink};
+use ua_value::plumbing::Parts;
+use ua_value::{NoMemory, Sink};
 
 /// The flag of every frame that is no message's chunk.
 const FINAL: u8 = b'F';

@@ -21,12 +21,12 @@ id_of n = two_byte n
 
 abbrev pub is_number : ℕ → Identifier → Bool
 is_number n (identifiers.Numeric k) = k == n
-is_number n (identifiers.Text t) = false
+is_number n (identifiers.String t) = false
 is_number n (identifiers.Guid g) = false
 is_number n (identifiers.Opaque b) = false
 
 abbrev pub is_id : ℕ → NodeId → Bool
-is_id n id = id.namespace == 0 && is_number n id.identifier
+is_id n id = id.namespace_index == 0 && is_number n id.identifier
 
 -- the whole bytes are a spelling of the id n and then one of the fields
 abbrev pub IsBodyOf : {V : Type 0} → ℕ → Format V → V → List ℕ → Type 0

@@ -39,14 +39,14 @@ refused m law bytes NoMemory h = tt
 
 -- ---- ids
 
-id_is : (n namespace : ℕ) (i : Identifier) → (namespace == 0) ≡ true → is_number n i ≡ true → (record { namespace = namespace; identifier = i }) ≡ id_of n
+id_is : (n namespace : ℕ) (i : Identifier) → (namespace == 0) ≡ true → is_number n i ≡ true → (record { namespace_index = namespace; identifier = i }) ≡ id_of n
 id_is n namespace (identifiers.Numeric k) e h = let same : k ≡ n = eqb-true _ _ h in let none : namespace ≡ 0 = eqb-true _ _ e in cc
-id_is n namespace (identifiers.Text t) e h = absurd cc
+id_is n namespace (identifiers.String t) e h = absurd cc
 id_is n namespace (identifiers.Guid g) e h = absurd cc
 id_is n namespace (identifiers.Opaque b) e h = absurd cc
 
 pub known : (n : ℕ) (id : NodeId) → is_id n id ≡ true → id ≡ id_of n
-known n id e = let b = and_parts (id.namespace == 0) (is_number n id.identifier) e in id_is n id.namespace id.identifier b.0 b.1
+known n id e = let b = and_parts (id.namespace_index == 0) (is_number n id.identifier) e in id_is n id.namespace_index id.identifier b.0 b.1
 
 pub own : (n : ℕ) → is_id n (id_of n) ≡ true
 own n = eq-eqb n n refl

@@ -3,9 +3,8 @@
 ghost use Rattle.ua_service.specs.Application.{application_description, lawful_application_description};
 
 use std::alloc::Global;
-use ua_value::{
-    Array, Fields, LocalizedText, NoMemory, Parts, ReadFault, Sink, UaString, Wire, copy_three,
-};
+use ua_value::plumbing::{Fields, Parts, copy_three};
+use ua_value::{Array, LocalizedText, NoMemory, ReadFault, Sink, UaString, Wire};
 
 /// An application that can be found (OPC 10000-4, 7.2).
 #[derive(Debug, PartialEq, Eq, Drop)]

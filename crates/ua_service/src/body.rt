@@ -7,7 +7,8 @@ ghost use Rattle.ua_service.specs.Message.{Message, message, is_id, id_of};
 ghost use Rattle.ua_service.specs.MessageLaws.{IsLawfulMessage};
 
 use std::alloc::Global;
-use ua_value::{Identifier, NoMemory, NodeId, ReadFault, Sink, Wire, read_whole};
+use ua_value::plumbing::read_whole;
+use ua_value::{Identifier, NoMemory, NodeId, ReadFault, Sink, Wire};
 
 /// A message. Its body is the id of its encoding as a NodeId, then its fields, and nothing more
 /// (OPC 10000-6, 5.2.9). The id may be spelled in any form; the shortest is written.
@@ -113,7 +114,7 @@ pub fn body_of<M: Body>(alloc: Global, message: M) -> Result<Vec<u8>, NoMemory>
 pub(crate) fn is(id: &NodeId, number: u32) -> bool
     ensures { result ≡ is_id number id.now }
 {
-    id.namespace == 0
+    id.namespace_index == 0
         && match &id.identifier {
             Identifier::Numeric(found) => *found == number,
             _ => false,

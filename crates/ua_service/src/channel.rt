@@ -7,7 +7,8 @@ use crate::body::{Body, id, read_fields_of};
 use crate::encoding::{CLOSE_REQUEST, OPEN_REQUEST, OPEN_RESPONSE};
 use crate::headers::{RequestHeader, ResponseHeader};
 use std::alloc::Global;
-use ua_value::{DateTime, Fields, NoMemory, Parts, ReadFault, Sink, UaBytes, Wire, copy_two};
+use ua_value::plumbing::{Fields, Parts, copy_two};
+use ua_value::{DateTime, NoMemory, ReadFault, Sink, UaBytes, Wire};
 
 /// A request that a secure channel is opened or its token renewed (OPC 10000-4, 5.6.2).
 #[derive(Debug, PartialEq, Eq, Drop)]

@@ -6,7 +6,8 @@ use crate::application::ApplicationDescription;
 use crate::endpoint::EndpointDescription;
 use crate::headers::{RequestHeader, ResponseHeader};
 use std::alloc::Global;
-use ua_value::{Array, Fields, NoMemory, Parts, ReadFault, Sink, UaString, Wire, copy_two};
+use ua_value::plumbing::{Fields, Parts, copy_two};
+use ua_value::{Array, NoMemory, ReadFault, Sink, UaString, Wire};
 
 /// A question for the servers that the receiver knows (OPC 10000-4, 5.5.2).
 #[derive(Debug, PartialEq, Eq, Drop)]

@@ -4,9 +4,8 @@ ghost use Rattle.ua_service.specs.Endpoint.{user_token_policy, lawful_user_token
 
 use crate::application::ApplicationDescription;
 use std::alloc::Global;
-use ua_value::{
-    Array, Fields, NoMemory, Parts, ReadFault, Sink, UaBytes, UaString, Wire, copy_three, copy_two,
-};
+use ua_value::plumbing::{Fields, Parts, copy_three, copy_two};
+use ua_value::{Array, NoMemory, ReadFault, Sink, UaBytes, UaString, Wire};
 
 /// A kind of user identity that an endpoint takes (OPC 10000-4, 7.42).
 #[derive(Debug, PartialEq, Eq, Drop)]

@@ -4,10 +4,8 @@ ghost use Rattle.std.specs.Prelude.{◌≡◌};
 ghost use Rattle.ua_service.specs.Headers.{request_header, request_header_at, lawful_request_header, response_header, lawful_response_header, response_header_at, service_fault, lawful_service_fault};
 
 use std::alloc::Global;
-use ua_value::{
-    Array, DateTime, Fields, NoMemory, NodeId, Parts, ReadFault, Sink, StatusCode, UaString, Wire,
-    copy_three,
-};
+use ua_value::plumbing::{Fields, Parts, copy_three};
+use ua_value::{Array, DateTime, NoMemory, NodeId, ReadFault, Sink, StatusCode, UaString, Wire};
 use ua_variant::{DiagnosticInfo, ExtensionObject};
 
 /// What stands before the fields of every request (OPC 10000-4, 7.33).

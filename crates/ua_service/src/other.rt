@@ -6,7 +6,8 @@ ghost use Rattle.ua_service.specs.OtherFields.{IsOtherId, IsOther, canon_other};
 
 use crate::headers::RequestHeader;
 use std::marker::Model;
-use ua_value::{NoMemory, NodeId, Parts, Raw, Sink, Wire};
+use ua_value::plumbing::{Parts, Raw};
+use ua_value::{NoMemory, NodeId, Sink, Wire};
 
 /// A request of a service that is read no further than its header. Its id is none of those that
 /// `Request` has a case for.

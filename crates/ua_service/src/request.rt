@@ -11,7 +11,8 @@ use crate::encoding::{FIND_SERVERS_REQUEST, GET_ENDPOINTS_REQUEST};
 use crate::headers::RequestHeader;
 use crate::other::OtherRequest;
 use std::alloc::Global;
-use ua_value::{NoMemory, NodeId, Parts, ReadFault, Sink, Wire, read_whole};
+use ua_value::plumbing::{Parts, read_whole};
+use ua_value::{NoMemory, NodeId, ReadFault, Sink, Wire};
 
 /// What a client asks for over an open channel.
 #[derive(Debug, Drop)]

@@ -8,7 +8,8 @@ use crate::discovery::{FindServersResponse, GetEndpointsResponse};
 use crate::encoding::{FIND_SERVERS_RESPONSE, GET_ENDPOINTS_RESPONSE, SERVICE_FAULT};
 use crate::headers::ServiceFault;
 use std::alloc::Global;
-use ua_value::{NoMemory, NodeId, Parts, ReadFault, Sink, Wire, read_whole};
+use ua_value::plumbing::{Parts, read_whole};
+use ua_value::{NoMemory, NodeId, ReadFault, Sink, Wire};
 
 /// What a server answers over an open channel.
 #[derive(Debug, Drop)]

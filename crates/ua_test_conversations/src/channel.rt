@@ -78,7 +78,7 @@ fn is_heard(
 
 fn null_id() -> NodeId {
     NodeId {
-        namespace: 0,
+        namespace_index: 0,
         identifier: Identifier::Numeric(0),
     }
 }

@@ -11,7 +11,8 @@ use ua_conn::{
 };
 use ua_disco::{DEFAULT, Settings};
 use ua_service::{Request, read_request};
-use ua_value::{UaString, let_go};
+use ua_value::UaString;
+use ua_value::plumbing::let_go;
 
 pub(crate) const CONFIG: ClientConfig = ClientConfig {
     buffer: 65535,

@@ -4,7 +4,8 @@ use std::alloc::Global;
 use ua_conn::{Answer, AnswerResult, Client, ClientConfig, End, Server};
 use ua_disco::{DEFAULT, Settings};
 use ua_service::{FindServersRequest, Request, RequestHeader};
-use ua_value::{Array, DateTime, Identifier, NodeId, UaString, let_go};
+use ua_value::plumbing::let_go;
+use ua_value::{Array, DateTime, Identifier, NodeId, UaString};
 use ua_variant::{ExtensionBody, ExtensionObject};
 
 /// 2026-01-01 00:00 UTC in ticks of 100 ns since 1601-01-01 UTC. A program asks its clock.
@@ -19,7 +20,7 @@ const CONFIG: ClientConfig = ClientConfig {
 
 fn null_id() -> NodeId {
     NodeId {
-        namespace: 0,
+        namespace_index: 0,
         identifier: Identifier::Numeric(0),
     }
 }

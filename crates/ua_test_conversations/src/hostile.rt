@@ -6,7 +6,7 @@ use crate::vectors::{ACKNOWLEDGE, FIND_BODY, OPENED};
 use std::alloc::Global;
 use ua_conn::{AskFault, Client, ClientFault};
 use ua_service::{Request, read_request};
-use ua_value::let_go;
+use ua_value::plumbing::let_go;
 
 /// How far a client has come.
 #[derive(Clone, Copy)]

@@ -57,7 +57,7 @@ fn is_sample_of<T: Wire + Sample>(alloc: Global, front: &[u8], fields: &[u8]) ->
 
 impl Sample for RequestHeader {
     fn is_sample(&self) -> bool {
-        self.authentication_token.namespace == 3
+        self.authentication_token.namespace_index == 3
             && matches!(
                 self.authentication_token.identifier,
                 Identifier::Numeric(0x0705)

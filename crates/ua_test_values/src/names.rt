@@ -7,7 +7,7 @@ struct Qualified;
 
 impl Shown<QualifiedName> for Qualified {
     fn is_shown(&self, name: &QualifiedName) -> bool {
-        name.namespace == 0x0201 && is_text(&name.name, "a")
+        name.namespace_index == 0x0201 && is_text(&name.name, "a")
     }
 }
 

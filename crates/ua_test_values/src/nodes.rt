@@ -10,7 +10,7 @@ struct Numbered(u16, u32);
 
 impl Shown<NodeId> for Numbered {
     fn is_shown(&self, id: &NodeId) -> bool {
-        id.namespace == self.0
+        id.namespace_index == self.0
             && matches!(&id.identifier, Identifier::Numeric(number) if *number == self.1)
     }
 }
@@ -49,7 +49,7 @@ const NUMERIC: [(&[u8], u16, u32, &[u8]); 7] = [
 /// Whether an id that is made of these is written so.
 fn is_made(alloc: Global, namespace: u16, number: u32, canon: &[u8]) -> bool {
     let made = NodeId {
-        namespace,
+        namespace_index: namespace,
         identifier: Identifier::Numeric(number),
     };
     is_written(alloc, &made, canon)
@@ -73,8 +73,8 @@ struct HotWater;
 
 impl Shown<NodeId> for HotWater {
     fn is_shown(&self, id: &NodeId) -> bool {
-        id.namespace == 1
-            && matches!(&id.identifier, Identifier::Text(text) if is_text(text, "Hot水"))
+        id.namespace_index == 1
+            && matches!(&id.identifier, Identifier::String(text) if is_text(text, "Hot水"))
     }
 }
 
@@ -82,7 +82,7 @@ struct OfGuid;
 
 impl Shown<NodeId> for OfGuid {
     fn is_shown(&self, id: &NodeId) -> bool {
-        id.namespace == 2
+        id.namespace_index == 2
             && matches!(&id.identifier, Identifier::Guid(guid) if guid.data1 == 0x7296_2b91)
     }
 }
@@ -91,7 +91,7 @@ struct Opaque;
 
 impl Shown<NodeId> for Opaque {
     fn is_shown(&self, id: &NodeId) -> bool {
-        id.namespace == 3
+        id.namespace_index == 3
             && matches!(&id.identifier, Identifier::Opaque(bytes) if bytes.get() == Some([0xff].as_slice()))
     }
 }
@@ -136,9 +136,9 @@ struct Expanded<'a>(Option<&'a str>, u32);
 
 impl Shown<ExpandedNodeId> for Expanded<'_> {
     fn is_shown(&self, id: &ExpandedNodeId) -> bool {
-        id.uri.get() == self.0
-            && id.server == self.1
-            && matches!(&id.node.identifier, Identifier::Numeric(72))
+        id.namespace_uri.get() == self.0
+            && id.server_index == self.1
+            && matches!(&id.node_id.identifier, Identifier::Numeric(72))
     }
 }
 

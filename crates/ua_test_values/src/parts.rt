@@ -4,9 +4,10 @@ use crate::spelling::is_written;
 use std::alloc::Global;
 use std::fmt::Display;
 use std::test::Fail;
+use ua_value::plumbing::{Fields, Parts, Raw, read_part, read_whole};
 use ua_value::{
-    Array, Fields, NodeId, Parts, Raw, ReadFault, Sink, UaBytes, UaString, ValueFault, XmlElement,
-    laws, peek_string, peek_u32, read_part, read_whole,
+    Array, NodeId, ReadFault, Sink, UaBytes, UaString, ValueFault, XmlElement, laws, peek_string,
+    peek_u32,
 };
 
 /// Whether a string and an XML element that are made of a text keep it.

@@ -14,7 +14,7 @@ pub(crate) type Id = (u16, u32);
 
 fn numbered(id: Id) -> NodeId {
     NodeId {
-        namespace: id.0,
+        namespace_index: id.0,
         identifier: Identifier::Numeric(id.1),
     }
 }
@@ -96,7 +96,7 @@ fn other_requests_have_other_ids(rt: HostRuntime) {
 }
 
 fn is_session(type_id: &NodeId, header: &RequestHeader) -> bool {
-    type_id.namespace == 0
+    type_id.namespace_index == 0
         && matches!(&type_id.identifier, Identifier::Numeric(461))
         && header.request_handle == 2
 }

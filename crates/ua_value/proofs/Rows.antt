@@ -130,21 +130,21 @@ refuses_flag = refl
 
 -- ---- expanded node ids
 
-reads_flagged_null : expanded_node_id.grammar.front (0x80 ∷ 0x48 ∷ 0xff ∷ 0xff ∷ 0xff ∷ 0xff ∷ []) ≡ Some (record { node = two_byte 72; uri = None; server = 0 }, [])
+reads_flagged_null : expanded_node_id.grammar.front (0x80 ∷ 0x48 ∷ 0xff ∷ 0xff ∷ 0xff ∷ 0xff ∷ []) ≡ Some (record { node_id = two_byte 72; namespace_uri = None; server_index = 0 }, [])
 unfolding expanded_node_id unsigned bytes_of
 reads_flagged_null = refl
 
-writes_unflagged : expanded_node_id.canon (record { node = two_byte 72; uri = None; server = 0 }) ≡ 0x00 ∷ 0x48 ∷ []
+writes_unflagged : expanded_node_id.canon (record { node_id = two_byte 72; namespace_uri = None; server_index = 0 }) ≡ 0x00 ∷ 0x48 ∷ []
 unfolding expanded_node_id node_id raised unsigned
 writes_unflagged = refl
 
-writes_flags : expanded_node_id.canon (record { node = two_byte 72; uri = Some (0x61 ∷ []); server = 2 }) ≡ 0xc0 ∷ 0x48 ∷ 1 ∷ 0 ∷ 0 ∷ 0 ∷ 0x61 ∷ 2 ∷ 0 ∷ 0 ∷ 0 ∷ []
+writes_flags : expanded_node_id.canon (record { node_id = two_byte 72; namespace_uri = Some (0x61 ∷ []); server_index = 2 }) ≡ 0xc0 ∷ 0x48 ∷ 1 ∷ 0 ∷ 0 ∷ 0 ∷ 0x61 ∷ 2 ∷ 0 ∷ 0 ∷ 0 ∷ []
 unfolding expanded_node_id node_id raised bytes_of unsigned
 writes_flags = refl
 
 -- ---- names and texts in a language
 
-writes_name : qualified_name.canon (record { namespace = 1; name = Some (0x61 ∷ []) }) ≡ 1 ∷ 0 ∷ 1 ∷ 0 ∷ 0 ∷ 0 ∷ 0x61 ∷ []
+writes_name : qualified_name.canon (record { namespace_index = 1; name = Some (0x61 ∷ []) }) ≡ 1 ∷ 0 ∷ 1 ∷ 0 ∷ 0 ∷ 0 ∷ 0x61 ∷ []
 unfolding qualified_name bytes_of unsigned
 writes_name = refl
 

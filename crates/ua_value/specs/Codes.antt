@@ -49,19 +49,19 @@ Forms = ℕ ⊎ (Option (List ℕ) ⊎ (Guid ⊎ Option (List ℕ)))
 
 abbrev pub form_of : Identifier → Forms
 form_of (identifiers.Numeric n) = inl n
-form_of (identifiers.Text t) = inr (inl t)
+form_of (identifiers.String t) = inr (inl t)
 form_of (identifiers.Guid g) = inr (inr (inl g))
 form_of (identifiers.Opaque t) = inr (inr (inr t))
 
 abbrev pub of_form : Forms → Identifier
 of_form (inl n) = identifiers.Numeric n
-of_form (inr (inl t)) = identifiers.Text t
+of_form (inr (inl t)) = identifiers.String t
 of_form (inr (inr (inl g))) = identifiers.Guid g
 of_form (inr (inr (inr t))) = identifiers.Opaque t
 
 pub form_back : (i : Identifier) → of_form (form_of i) ≡ i
 form_back (identifiers.Numeric n) = refl
-form_back (identifiers.Text t) = refl
+form_back (identifiers.String t) = refl
 form_back (identifiers.Guid g) = refl
 form_back (identifiers.Opaque t) = refl
 
@@ -69,13 +69,13 @@ abbrev pub identifier_coded : Coded Identifier
 identifier_coded = code_by Forms (coded⊎ coded_ℕ (coded⊎ text_coded (coded⊎ guid_coded text_coded))) form_of of_form form_back
 
 abbrev pub node_coded : Coded NodeId
-node_coded = code_by (ℕ × Identifier) (coded× coded_ℕ identifier_coded) (λ n. (n.namespace, n.identifier)) (λ p. record { namespace = p.0; identifier = p.1 }) (λ _. refl)
+node_coded = code_by (ℕ × Identifier) (coded× coded_ℕ identifier_coded) (λ n. (n.namespace_index, n.identifier)) (λ p. record { namespace_index = p.0; identifier = p.1 }) (λ _. refl)
 
 abbrev pub expanded_coded : Coded ExpandedNodeId
-expanded_coded = code_by (NodeId × (Option (List ℕ) × ℕ)) (coded× node_coded (coded× text_coded coded_ℕ)) (λ n. (n.node, (n.uri, n.server))) (λ p. record { node = p.0; uri = p.1.0; server = p.1.1 }) (λ _. refl)
+expanded_coded = code_by (NodeId × (Option (List ℕ) × ℕ)) (coded× node_coded (coded× text_coded coded_ℕ)) (λ n. (n.node_id, (n.namespace_uri, n.server_index))) (λ p. record { node_id = p.0; namespace_uri = p.1.0; server_index = p.1.1 }) (λ _. refl)
 
 abbrev pub name_coded : Coded QualifiedName
-name_coded = code_by (ℕ × Option (List ℕ)) (coded× coded_ℕ text_coded) (λ q. (q.namespace, q.name)) (λ p. record { namespace = p.0; name = p.1 }) (λ _. refl)
+name_coded = code_by (ℕ × Option (List ℕ)) (coded× coded_ℕ text_coded) (λ q. (q.namespace_index, q.name)) (λ p. record { namespace_index = p.0; name = p.1 }) (λ _. refl)
 
 abbrev pub localized_coded : Coded LocalizedText
 localized_coded = code_by (Option (List ℕ) × Option (List ℕ)) (coded× text_coded text_coded) (λ q. (q.locale, q.text)) (λ p. record { locale = p.0; text = p.1 }) (λ _. refl)

@@ -11,7 +11,7 @@ use Rattle.ua_value.specs.Sequence.{both, made, part, headed}
 use Rattle.ua_value.specs.Node.{node_behind, node_id}
 
 abbrev pub expanded_of : NodeId × (Option (List ℕ) × ℕ) → ExpandedNodeId
-expanded_of p = record { node = p.0; uri = p.1.0; server = p.1.1 }
+expanded_of p = record { node_id = p.0; namespace_uri = p.1.0; server_index = p.1.1 }
 
 -- a form of a node id in the low six bits, and a flag for the URI and one for the index; a flagged null or zero reads as absent
 abbrev pub expanded_behind : ℕ → Grammar ExpandedNodeId
@@ -31,6 +31,6 @@ canon_index n = if n == 0 then [] else to_le_bytes w32 n
 unfoldable pub expanded_node_id : Format ExpandedNodeId
 expanded_node_id = record {
   grammar = headed expanded_behind;
-  canon = λ v. raised (flag (is_there v.uri) 0x80 + flag (is_nonzero v.server) 0x40) (node_id.canon v.node) ++ (canon_part v.uri ++ canon_index v.server);
-  IsValue = λ v. node_id.IsValue v.node × string.IsValue v.uri × (v.server < 2 ^ 32);
+  canon = λ v. raised (flag (is_there v.namespace_uri) 0x80 + flag (is_nonzero v.server_index) 0x40) (node_id.canon v.node_id) ++ (canon_part v.namespace_uri ++ canon_index v.server_index);
+  IsValue = λ v. node_id.IsValue v.node_id × string.IsValue v.namespace_uri × (v.server_index < 2 ^ 32);
 }

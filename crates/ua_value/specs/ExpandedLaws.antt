@@ -95,32 +95,32 @@ index_value false n a s = omega (arith, s.0)
 
 -- ---- the whole
 
-pub length_expanded : (v : ExpandedNodeId) → length (expanded_node_id.canon v) ≡ length (node_id.canon v.node) + length (canon_part v.uri) + length (canon_index v.server)
+pub length_expanded : (v : ExpandedNodeId) → length (expanded_node_id.canon v) ≡ length (node_id.canon v.node_id) + length (canon_part v.namespace_uri) + length (canon_index v.server_index)
 unfolding expanded_node_id
 length_expanded v =
-    let flags = flag (is_there v.uri) 0x80 + flag (is_nonzero v.server) 0x40 in
-    omega (arith, length-raised flags (node_id.canon v.node), length-append (raised flags (node_id.canon v.node)) (canon_part v.uri ++ canon_index v.server), length-append (canon_part v.uri) (canon_index v.server))
+    let flags = flag (is_there v.namespace_uri) 0x80 + flag (is_nonzero v.server_index) 0x40 in
+    omega (arith, length-raised flags (node_id.canon v.node_id), length-append (raised flags (node_id.canon v.node_id)) (canon_part v.namespace_uri ++ canon_index v.server_index), length-append (canon_part v.namespace_uri) (canon_index v.server_index))
 
 canonical_expanded : (v : ExpandedNodeId) → expanded_node_id.IsValue v → expanded_node_id.grammar.spells v (expanded_node_id.canon v)
 unfolding expanded_node_id node_id raised
 canonical_expanded v h =
-    let s = lawful_node.canonical v.node h.0 in
-    let f = flagged (is_there v.uri) (is_nonzero v.server) s.0 (small_form s.0 v.node s.1 s.3) in
-    let flags = flag (is_there v.uri) 0x80 + flag (is_nonzero v.server) 0x40 in
-    let node = subst (λ (k : ℕ). (node_behind k).spells v.node s.1) (sym f.form) s.3 in
-    let uri = subst (λ (b : Bool). (part b None string.grammar).spells v.uri (canon_part v.uri)) (sym f.has_uri) (canonical_part v.uri h.1) in
-    let server = subst (λ (b : Bool). (part b 0 (unsigned w32).grammar).spells v.server (canon_index v.server)) (sym f.has_server) (canonical_index (v.server == 0) v.server refl h.2) in (
+    let s = lawful_node.canonical v.node_id h.0 in
+    let f = flagged (is_there v.namespace_uri) (is_nonzero v.server_index) s.0 (small_form s.0 v.node_id s.1 s.3) in
+    let flags = flag (is_there v.namespace_uri) 0x80 + flag (is_nonzero v.server_index) 0x40 in
+    let node = subst (λ (k : ℕ). (node_behind k).spells v.node_id s.1) (sym f.form) s.3 in
+    let uri = subst (λ (b : Bool). (part b None string.grammar).spells v.namespace_uri (canon_part v.namespace_uri)) (sym f.has_uri) (canonical_part v.namespace_uri h.1) in
+    let server = subst (λ (b : Bool). (part b 0 (unsigned w32).grammar).spells v.server_index (canon_index v.server_index)) (sym f.has_server) (canonical_index (v.server_index == 0) v.server_index refl h.2) in (
       s.0 + flags,
-      s.1 ++ (canon_part v.uri ++ canon_index v.server),
+      s.1 ++ (canon_part v.namespace_uri ++ canon_index v.server_index),
       f.below,
-      ((v.node, (v.uri, v.server)), (s.1, canon_part v.uri ++ canon_index v.server, node, (canon_part v.uri, canon_index v.server, uri, server, refl), refl), refl),
-      ap (λ (l : List ℕ). raised flags l ++ (canon_part v.uri ++ canon_index v.server)) s.4,
+      ((v.node_id, (v.namespace_uri, v.server_index)), (s.1, canon_part v.namespace_uri ++ canon_index v.server_index, node, (canon_part v.namespace_uri, canon_index v.server_index, uri, server, refl), refl), refl),
+      ap (λ (l : List ℕ). raised flags l ++ (canon_part v.namespace_uri ++ canon_index v.server_index)) s.4,
     )
 
 shortest_expanded : (v : ExpandedNodeId) (a : List ℕ) → expanded_node_id.grammar.spells v a → length (expanded_node_id.canon v) ≤ length a
 unfolding expanded_node_id node_id
 shortest_expanded v a s =
-    let P : ExpandedNodeId → Type 0 = λ w. length (node_id.canon w.node) + length (canon_part w.uri) + length (canon_index w.server) ≤ suc (length s.1) in
+    let P : ExpandedNodeId → Type 0 = λ w. length (node_id.canon w.node_id) + length (canon_part w.namespace_uri) + length (canon_index w.server_index) ≤ suc (length s.1) in
     let p = s.3 in
     let within : P (expanded_of p.0) = omega (
       arith,

@@ -11,7 +11,7 @@ use Rattle.ua_value.specs.Sequence.{by, pair}
 use Rattle.ua_value.specs.SequenceLaws.{lawful_by, lawful_pair}
 
 unfoldable pub qualified_name : Format QualifiedName
-qualified_name = by (λ q. (q.namespace, q.name)) (λ p. record { namespace = p.0; name = p.1 }) (pair (unsigned w16) string)
+qualified_name = by (λ q. (q.namespace_index, q.name)) (λ p. record { namespace_index = p.0; name = p.1 }) (pair (unsigned w16) string)
 
 pub lawful_qualified_name : IsLawful qualified_name
 unfolding qualified_name

@@ -12,19 +12,19 @@ use Rattle.ua_value.specs.Guid.{guid}
 use Rattle.ua_value.specs.Sequence.{both, made, never, either, headed}
 
 abbrev pub two_byte : ℕ → NodeId
-two_byte id = record { namespace = 0; identifier = identifiers.Numeric id }
+two_byte id = record { namespace_index = 0; identifier = identifiers.Numeric id }
 
 abbrev pub numeric : ℕ × ℕ → NodeId
-numeric p = record { namespace = p.0; identifier = identifiers.Numeric p.1 }
+numeric p = record { namespace_index = p.0; identifier = identifiers.Numeric p.1 }
 
 abbrev pub textual : ℕ × Option (List ℕ) → NodeId
-textual p = record { namespace = p.0; identifier = identifiers.Text p.1 }
+textual p = record { namespace_index = p.0; identifier = identifiers.String p.1 }
 
 abbrev pub unique_id : ℕ × Guid → NodeId
-unique_id p = record { namespace = p.0; identifier = identifiers.Guid p.1 }
+unique_id p = record { namespace_index = p.0; identifier = identifiers.Guid p.1 }
 
 abbrev pub opaque : ℕ × Option (List ℕ) → NodeId
-opaque p = record { namespace = p.0; identifier = identifiers.Opaque p.1 }
+opaque p = record { namespace_index = p.0; identifier = identifiers.Opaque p.1 }
 
 -- what follows the encoding byte
 abbrev pub node_behind : ℕ → Grammar NodeId
@@ -45,19 +45,19 @@ canon_numeric namespace id =
 
 abbrev pub canon_identifier : ℕ → Identifier → List ℕ
 canon_identifier namespace (identifiers.Numeric id) = canon_numeric namespace id
-canon_identifier namespace (identifiers.Text t) = 3 ∷ to_le_bytes w16 namespace ++ string.canon t
+canon_identifier namespace (identifiers.String t) = 3 ∷ to_le_bytes w16 namespace ++ string.canon t
 canon_identifier namespace (identifiers.Guid g) = 4 ∷ to_le_bytes w16 namespace ++ guid.canon g
 canon_identifier namespace (identifiers.Opaque t) = 5 ∷ to_le_bytes w16 namespace ++ byte_string.canon t
 
 abbrev pub IsIdentifier : Identifier → Type 0
 IsIdentifier (identifiers.Numeric id) = id < 2 ^ 32
-IsIdentifier (identifiers.Text t) = string.IsValue t
+IsIdentifier (identifiers.String t) = string.IsValue t
 IsIdentifier (identifiers.Guid g) = guid.IsValue g
 IsIdentifier (identifiers.Opaque t) = byte_string.IsValue t
 
 unfoldable pub node_id : Format NodeId
 node_id = record {
   grammar = headed node_behind;
-  canon = λ n. canon_identifier n.namespace n.identifier;
-  IsValue = λ n. (n.namespace < 2 ^ 16) × IsIdentifier n.identifier;
+  canon = λ n. canon_identifier n.namespace_index n.identifier;
+  IsValue = λ n. (n.namespace_index < 2 ^ 16) × IsIdentifier n.identifier;
 }

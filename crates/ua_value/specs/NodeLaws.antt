@@ -66,10 +66,10 @@ canonical_by false false namespace id m n small short =
 below_both : (a b m n : ℕ) → (nat_lt a m && nat_lt b n) ≡ true → (a < m) × (b < n)
 below_both a b m n e = grind (arith, nat_tests)
 
-canonical_node : (namespace : ℕ) (i : Identifier) → namespace < 2 ^ 16 → IsIdentifier i → (headed node_behind).spells (record { namespace = namespace; identifier = i }) (canon_identifier namespace i)
+canonical_node : (namespace : ℕ) (i : Identifier) → namespace < 2 ^ 16 → IsIdentifier i → (headed node_behind).spells (record { namespace_index = namespace; identifier = i }) (canon_identifier namespace i)
 unfolding unsigned
 canonical_node namespace (identifiers.Numeric id) h k = canonical_by (nat_lt namespace 1 && nat_lt id 256) (nat_lt namespace 256 && nat_lt id 65536) namespace id h k (below_both namespace id 1 256) (below_both namespace id 256 65536)
-canonical_node namespace (identifiers.Text t) h k = (3, to_le_bytes w16 namespace ++ string.canon t, lit< tt, ((namespace, t), (to_le_bytes w16 namespace, string.canon t, (h, refl), lawful_string.canonical t k, refl), refl), refl)
+canonical_node namespace (identifiers.String t) h k = (3, to_le_bytes w16 namespace ++ string.canon t, lit< tt, ((namespace, t), (to_le_bytes w16 namespace, string.canon t, (h, refl), lawful_string.canonical t k, refl), refl), refl)
 canonical_node namespace (identifiers.Guid g) h k = (4, to_le_bytes w16 namespace ++ guid.canon g, lit< tt, ((namespace, g), (to_le_bytes w16 namespace, guid.canon g, (h, refl), lawful_guid.canonical g k, refl), refl), refl)
 canonical_node namespace (identifiers.Opaque t) h k = (5, to_le_bytes w16 namespace ++ byte_string.canon t, lit< tt, ((namespace, t), (to_le_bytes w16 namespace, byte_string.canon t, (h, refl), lawful_byte_string.canonical t k, refl), refl), refl)
 
@@ -92,9 +92,9 @@ tiny_by false q namespace id e = absurd cc
 both_below : (a b m n : ℕ) → a < m → b < n → (nat_lt a m && nat_lt b n) ≡ true
 both_below a b m n h k = grind (arith, nat_tests)
 
-pub shorter_behind : (k : ℕ) (v : NodeId) (x : List ℕ) → (node_behind k).spells v x → length (canon_identifier v.namespace v.identifier) ≤ suc (length x)
+pub shorter_behind : (k : ℕ) (v : NodeId) (x : List ℕ) → (node_behind k).spells v x → length (canon_identifier v.namespace_index v.identifier) ≤ suc (length x)
 unfolding unsigned
-shorter_behind k v x s = in_each_form (λ n x. length (canon_identifier n.namespace n.identifier) ≤ suc (length x))
+shorter_behind k v x s = in_each_form (λ n x. length (canon_identifier n.namespace_index n.identifier) ≤ suc (length x))
     (λ id x s. omega (arith, tiny_by (nat_lt 0 1 && nat_lt id 256) (nat_lt 0 256 && nat_lt id 65536) 0 id (both_below 0 id 1 256 (omega arith) s.0), ap length s.1))
     (λ p x s. omega (arith, short_by (nat_lt p.0 1 && nat_lt p.1 256) (nat_lt p.0 256 && nat_lt p.1 65536) p.0 p.1 (both_below p.0 p.1 256 65536 s.2.0 s.3.0), ap length s.4, ap length s.2.1, ap length s.3.1, length-append s.0 s.1))
     (λ p x s. omega (arith, length_by (nat_lt p.0 1 && nat_lt p.1 256) (nat_lt p.0 256 && nat_lt p.1 65536) p.0 p.1, ap length s.4, ap length s.2.1, ap length s.3.1, length-append s.0 s.1))
@@ -103,9 +103,9 @@ shorter_behind k v x s = in_each_form (λ n x. length (canon_identifier n.namesp
     (λ p x s. omega (arith, ap length s.4, ap length s.2.1, lawful_byte_string.shortest p.1 s.1 s.3, length-append s.0 s.1))
     (k == 0) (k == 1) (k == 2) (k == 3) (k == 4) (k == 5) v x s
 
-pub value_behind : (k : ℕ) (v : NodeId) (x : List ℕ) → (node_behind k).spells v x → length x ≤ input_limit → (v.namespace < 2 ^ 16) × IsIdentifier v.identifier
+pub value_behind : (k : ℕ) (v : NodeId) (x : List ℕ) → (node_behind k).spells v x → length x ≤ input_limit → (v.namespace_index < 2 ^ 16) × IsIdentifier v.identifier
 unfolding unsigned
-value_behind k v x s = in_each_form (λ n x. length x ≤ input_limit → (n.namespace < 2 ^ 16) × IsIdentifier n.identifier)
+value_behind k v x s = in_each_form (λ n x. length x ≤ input_limit → (n.namespace_index < 2 ^ 16) × IsIdentifier n.identifier)
     (λ id x s h. (omega arith, omega (arith, s.0)))
     (λ p x s h. (omega (arith, s.2.0), omega (arith, s.3.0)))
     (λ p x s h. (s.2.0, s.3.0))
@@ -131,7 +131,7 @@ unfolding node_id
 lawful_node = record {
   reads = headed_reads node_behind node_reads;
   nonempty = λ v a s. omega (arith, ap length s.4);
-  canonical = λ v h. canonical_node v.namespace v.identifier h.0 h.1;
+  canonical = λ v h. canonical_node v.namespace_index v.identifier h.0 h.1;
   shortest = λ v a s. omega (arith, ap length s.4, shorter_behind s.0 v s.1 s.3);
   a_value = λ v a s h. value_behind s.0 v s.1 s.3 (omega (arith, ap length s.4));
 }

@@ -18,9 +18,9 @@ use std::alloc::Global;
 /// it is absent. A null URI or an index 0 that is flagged reads as absent.
 #[derive(Debug, PartialEq, Eq, Drop)]
 pub struct ExpandedNodeId {
-    pub node: NodeId,
-    pub uri: UaString,
-    pub server: u32,
+    pub node_id: NodeId,
+    pub namespace_uri: UaString,
+    pub server_index: u32,
 }
 
 /// Puts what follows the node id.
@@ -56,21 +56,25 @@ impl Wire for ExpandedNodeId {
 
     #[tactic(auto, using(crate::specs::ExpandedLaws::length_expanded), unfolding(crate::specs::Expanded::expanded_node_id))]
     fn len(&self) -> u64 {
-        self.node.len() + part_len(&self.uri) + index_len(self.server)
+        self.node_id.len() + part_len(&self.namespace_uri) + index_len(self.server_index)
     }
 
     fn emit<S: Sink>(&self, out: &mut S) -> Result<(), NoMemory> {
-        let uri = if is_flagged(&self.uri) { 0x80 } else { 0 };
-        let server = if self.server == 0 { 0 } else { 0x40 };
-        self.node.emit_raised(uri + server, out)?;
-        emit_others(&self.uri, self.server, out)
+        let uri = if is_flagged(&self.namespace_uri) {
+            0x80
+        } else {
+            0
+        };
+        let server = if self.server_index == 0 { 0 } else { 0x40 };
+        self.node_id.emit_raised(uri + server, out)?;
+        emit_others(&self.namespace_uri, self.server_index, out)
     }
 
     fn copy(&self) -> Result<ExpandedNodeId, NoMemory> {
         Ok(ExpandedNodeId {
-            node: self.node.copy()?,
-            uri: self.uri.copy()?,
-            server: self.server,
+            node_id: self.node_id.copy()?,
+            namespace_uri: self.namespace_uri.copy()?,
+            server_index: self.server_index,
         })
     }
 
@@ -79,10 +83,17 @@ impl Wire for ExpandedNodeId {
             return Err(ReadFault::Refused);
         };
         let mask = *mask;
-        let (node, rest) = read_behind(alloc, mask % 64, rest)?;
-        let (uri, rest) = read_part(alloc, mask & 0x80 != 0, UaString::null(), rest)?;
-        let (server, rest) = read_part(alloc, mask & 0x40 != 0, 0u32, rest)?;
-        Ok((ExpandedNodeId { node, uri, server }, rest))
+        let (node_id, rest) = read_behind(alloc, mask % 64, rest)?;
+        let (namespace_uri, rest) = read_part(alloc, mask & 0x80 != 0, UaString::null(), rest)?;
+        let (server_index, rest) = read_part(alloc, mask & 0x40 != 0, 0u32, rest)?;
+        Ok((
+            ExpandedNodeId {
+                node_id,
+                namespace_uri,
+                server_index,
+            },
+            rest,
+        ))
     }
 
     ghost laws = { lawful_expanded };

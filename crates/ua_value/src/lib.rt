@@ -24,8 +24,10 @@
 //! | [`LocalizedText`] | 5.2.2.14 | `Localized.localized_text` |
 //! | [`Array`] | 5.2.5 | `Array.array` of the items' format |
 //!
+//! What is put by one spelling, values and more, is an [`Emit`]: its length is known before the first byte.
+//!
 //! A structure of several fields is a format made of its fields' by `pair` and `by` (specs/Sequence.antt), its laws in
-//! one expression, and an `impl Wire` over [`Fields`] and [`Parts`]: `QualifiedName` shows it.
+//! one expression, and an `impl Wire` over the fields and parts of [`plumbing`]: `QualifiedName` shows it.
 #![tactic(auto)]
 
 mod array;
@@ -33,6 +35,7 @@ mod bits;
 mod boolean;
 mod bytes;
 mod date;
+mod emit;
 mod expanded;
 mod fault;
 mod fields;
@@ -44,6 +47,7 @@ mod localized;
 mod names;
 mod node;
 mod number;
+pub mod plumbing;
 mod status;
 mod text;
 mod texts;
@@ -52,19 +56,17 @@ mod xml;
 
 pub use array::Array;
 pub use bits::{DoubleBits, FloatBits};
-pub use bytes::{LONGEST, UaBytes, bytes_front};
+pub use bytes::UaBytes;
 pub use date::DateTime;
+pub use emit::Emit;
 pub use expanded::ExpandedNodeId;
 pub use fault::{NoMemory, ReadFault, ValueFault};
-pub use fields::{Fields, Parts, Raw, copy_three, copy_two, read_part, read_whole};
 pub use guid::Guid;
-pub use letting_go::let_go;
 pub use localized::LocalizedText;
 pub use names::QualifiedName;
 pub use node::{Identifier, NodeId};
-pub use number::{front_u32, peek_u32};
+pub use number::peek_u32;
 pub use status::StatusCode;
-pub use text::{UaString, peek_string, string_front};
-pub use texts::MOST_TEXTS;
+pub use text::{UaString, peek_string};
 pub use wire::{Sink, Wire};
 pub use xml::XmlElement;

@@ -12,7 +12,7 @@ use std::alloc::Global;
 /// A name in a namespace. The namespace is the index of its URI in a list of the server.
 #[derive(Debug, PartialEq, Eq, Drop)]
 pub struct QualifiedName {
-    pub namespace: u16,
+    pub namespace_index: u16,
     pub name: UaString,
 }
 
@@ -25,24 +25,30 @@ impl Wire for QualifiedName {
     ghost Grows = { Unit {0} };
 
     fn len(&self) -> u64 {
-        self.namespace.len() + self.name.len()
+        self.namespace_index.len() + self.name.len()
     }
 
     fn emit<S: Sink>(&self, out: &mut S) -> Result<(), NoMemory> {
-        (&self.namespace, &self.name).emit_parts(out)
+        (&self.namespace_index, &self.name).emit_parts(out)
     }
 
     fn copy(&self) -> Result<QualifiedName, NoMemory> {
         Ok(QualifiedName {
-            namespace: self.namespace,
+            namespace_index: self.namespace_index,
             name: self.name.copy()?,
         })
     }
 
     fn read_front(alloc: Global, input: &[u8]) -> Result<(QualifiedName, &[u8]), ReadFault> {
-        let (namespace, rest) = u16::read_front(alloc, input)?;
+        let (namespace_index, rest) = u16::read_front(alloc, input)?;
         let (name, rest) = UaString::read_front(alloc, rest)?;
-        Ok((QualifiedName { namespace, name }, rest))
+        Ok((
+            QualifiedName {
+                namespace_index,
+                name,
+            },
+            rest,
+        ))
     }
 
     ghost laws = { lawful_qualified_name };

@@ -19,17 +19,16 @@ use std::alloc::Global;
 #[derive(Debug, PartialEq, Eq, Drop)]
 pub enum Identifier {
     Numeric(u32),
-    /// A String.
-    Text(UaString),
+    String(UaString),
     Guid(Guid),
     /// A ByteString.
     Opaque(UaBytes),
 }
 
-/// The id of a node: its namespace, as the index of a URI, and an identifier there.
+/// The id of a node: the index of its namespace's URI, and an identifier there.
 #[derive(Debug, PartialEq, Eq, Drop)]
 pub struct NodeId {
-    pub namespace: u16,
+    pub namespace_index: u16,
     pub identifier: Identifier,
 }
 
@@ -43,7 +42,7 @@ impl Wire for NodeId {
 
     #[tactic(auto, unfolding(crate::specs::Node::node_id, crate::specs::Number::unsigned))]
     fn len(&self) -> u64 {
-        let namespace = self.namespace;
+        let namespace = self.namespace_index;
         match &self.identifier {
             Identifier::Numeric(id) => {
                 let id = *id;
@@ -55,7 +54,7 @@ impl Wire for NodeId {
                     7
                 }
             }
-            Identifier::Text(text) => 3 + text.len(),
+            Identifier::String(text) => 3 + text.len(),
             Identifier::Guid(guid) => 3 + guid.len(),
             Identifier::Opaque(bytes) => 3 + bytes.len(),
         }
@@ -68,10 +67,10 @@ impl Wire for NodeId {
 
     fn copy(&self) -> Result<NodeId, NoMemory> {
         Ok(NodeId {
-            namespace: self.namespace,
+            namespace_index: self.namespace_index,
             identifier: match &self.identifier {
                 Identifier::Numeric(id) => Identifier::Numeric(*id),
-                Identifier::Text(text) => Identifier::Text(text.copy()?),
+                Identifier::String(text) => Identifier::String(text.copy()?),
                 Identifier::Guid(guid) => Identifier::Guid(*guid),
                 Identifier::Opaque(bytes) => Identifier::Opaque(bytes.copy()?),
             },
@@ -91,18 +90,18 @@ impl Wire for NodeId {
 impl NodeId {
     /// The id that is null: the number 0 in namespace 0 (OPC 10000-3, 8.2.4). It takes no memory.
     pub fn null() -> NodeId
-        ensures namespace { result.namespace ≡ 0 }
+        ensures namespace_index { result.namespace_index ≡ 0 }
         ensures identifier { result.identifier ≡ Identifier.Numeric 0 }
     {
         NodeId::numeric(0, 0)
     }
 
     /// A number in a namespace. It takes no memory.
-    pub fn numeric(namespace: u16, id: u32) -> NodeId
-        ensures namespace { result.namespace ≡ namespace }
+    pub fn numeric(namespace_index: u16, id: u32) -> NodeId
+        ensures namespace_index { result.namespace_index ≡ namespace_index }
         ensures identifier { result.identifier ≡ Identifier.Numeric id }
     {
-        node(namespace, Identifier::Numeric(id))
+        node(namespace_index, Identifier::Numeric(id))
     }
 
     /// Puts the canonical spelling with its encoding byte raised by the flags, or a beginning of it where memory runs
@@ -113,7 +112,7 @@ impl NodeId {
         ensures ok { OnOk result (S.contents out.new ≡ S.contents out.old ++ raised flags (node_id.canon self.now)) }
         ensures err { OnErr result (AppendsPart (S.contents out.old) (S.contents out.new) (raised flags (node_id.canon self.now))) }
     {
-        let namespace = self.namespace;
+        let namespace = self.namespace_index;
         match &self.identifier {
             Identifier::Numeric(id) => {
                 let id = *id;
@@ -125,7 +124,7 @@ impl NodeId {
                     (&(2 + flags), (&namespace, &id)).emit_parts(out)
                 }
             }
-            Identifier::Text(text) => (&(3 + flags), (&namespace, text)).emit_parts(out),
+            Identifier::String(text) => (&(3 + flags), (&namespace, text)).emit_parts(out),
             Identifier::Guid(guid) => (&(4 + flags), (&namespace, guid)).emit_parts(out),
             Identifier::Opaque(bytes) => (&(5 + flags), (&namespace, bytes)).emit_parts(out),
         }
@@ -158,7 +157,7 @@ pub(crate) fn read_behind(
         }
         3 => {
             let ((namespace, id), rest) = <(u16, UaString)>::read_fields(alloc, input)?;
-            Ok((node(namespace, Identifier::Text(id)), rest))
+            Ok((node(namespace, Identifier::String(id)), rest))
         }
         4 => {
             let ((namespace, id), rest) = <(u16, Guid)>::read_fields(alloc, input)?;
@@ -172,11 +171,11 @@ pub(crate) fn read_behind(
     }
 }
 
-fn node(namespace: u16, identifier: Identifier) -> NodeId
-    ensures { (result.namespace ≡ namespace) × (result.identifier ≡ identifier) }
+fn node(namespace_index: u16, identifier: Identifier) -> NodeId
+    ensures { (result.namespace_index ≡ namespace_index) × (result.identifier ≡ identifier) }
 {
     NodeId {
-        namespace,
+        namespace_index,
         identifier,
     }
 }

@@ -6,7 +6,8 @@ ghost use Rattle.ua_variant.specs.DiagnosticParts.{diagnostic_parts};
 
 use crate::flagged::{Kept, Then, UnlessNull, bit, copy_kept, kept_len, read_kept, text_len};
 use std::alloc::Global;
-use ua_value::{NoMemory, Parts, ReadFault, Sink, StatusCode, UaString, Wire, read_part};
+use ua_value::plumbing::{Parts, read_part};
+use ua_value::{NoMemory, ReadFault, Sink, StatusCode, UaString, Wire};
 
 /// The parts of a DiagnosticInfo beside the inner one, in the order of their bytes
 /// (OPC 10000-6, 5.2.2.12). The first four are indexes into the string table of a response.

@@ -5,9 +5,8 @@ ghost use Rattle.ua_variant.specs.Extension.{extension_body, extension_object};
 ghost use Rattle.ua_variant.specs.ExtensionLaws.{lawful_extension_body, lawful_extension_object};
 
 use std::alloc::Global;
-use ua_value::{
-    Fields, Identifier, NoMemory, NodeId, Parts, ReadFault, Sink, UaBytes, Wire, XmlElement,
-};
+use ua_value::plumbing::{Fields, Parts};
+use ua_value::{Identifier, NoMemory, NodeId, ReadFault, Sink, UaBytes, Wire, XmlElement};
 
 /// The value in an ExtensionObject, kept unread.
 #[derive(Debug, PartialEq, Eq, Drop)]
@@ -30,7 +29,7 @@ pub struct ExtensionObject {
 impl ExtensionObject {
     /// The one without a body, under the null id (OPC 10000-6, 5.2.2.15). It takes no memory.
     pub fn null() -> ExtensionObject
-        ensures namespace { result.type_id.namespace ≡ 0 }
+        ensures namespace_index { result.type_id.namespace_index ≡ 0 }
         ensures identifier { result.type_id.identifier ≡ Identifier.Numeric 0 }
         ensures body { result.body ≡ ExtensionBody.None }
     {

@@ -7,7 +7,8 @@ ghost use Rattle.ua_value.specs.Text.{string};
 ghost use Rattle.ua_variant.specs.Flagged.{kept_at, canon_kept, canon_unless_null};
 
 use std::alloc::Global;
-use ua_value::{NoMemory, Parts, ReadFault, Sink, UaString, Wire};
+use ua_value::plumbing::Parts;
+use ua_value::{NoMemory, ReadFault, Sink, UaString, Wire};
 
 /// The bit where it is set, else nothing.
 pub(crate) fn bit(set: bool, bit: u8) -> u8

@@ -19,7 +19,8 @@ use crate::shape::is_shape_of;
 use crate::stamps::Stamps;
 use crate::variant::{Body, DataValue, Element, Variant};
 use std::alloc::Global;
-use ua_value::{Array, DateTime, StatusCode, Wire, let_go};
+use ua_value::plumbing::let_go;
+use ua_value::{Array, DateTime, StatusCode, Wire};
 
 /// All elements are of the kind.
 fn are_of(kind: Kind, items: &[Element]) -> bool

@@ -19,7 +19,8 @@ use crate::shape::shape_front;
 use crate::stamps::Stamps;
 use crate::variant::{Body, DataValue, Element, Variant};
 use std::alloc::Global;
-use ua_value::{LONGEST, ReadFault, front_u32};
+use ua_value::ReadFault;
+use ua_value::plumbing::{LONGEST, front_u32};
 
 /// The Variant at the front that is at most so deep, and what follows it.
 #[cycle(read)]

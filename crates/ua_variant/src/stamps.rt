@@ -7,7 +7,8 @@ ghost use Rattle.ua_variant.specs.Stamps.{stamps};
 use crate::flagged::{Kept, Then, bit, copy_kept, kept_len, read_kept};
 use crate::picoseconds::Picoseconds;
 use std::alloc::Global;
-use ua_value::{DateTime, NoMemory, Parts, ReadFault, Sink, StatusCode, Wire};
+use ua_value::plumbing::Parts;
+use ua_value::{DateTime, NoMemory, ReadFault, Sink, StatusCode, Wire};
 
 /// The parts of a DataValue beside its value, in the order of their bytes (OPC 10000-6, 5.2.2.17).
 #[derive(Debug, Drop)]

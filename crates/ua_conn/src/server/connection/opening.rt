@@ -20,7 +20,8 @@ use ua_chunk::{Assembly, OpenChunk, Sequence, write_open};
 use ua_frame::status::BAD_TCP_MESSAGE_TYPE_INVALID;
 use ua_frame::{Frame, Kind, VERSION};
 use ua_service::{OpenResponse, body_of, read_open, response_header};
-use ua_value::{DateTime, NoMemory, UaBytes, let_go};
+use ua_value::plumbing::let_go;
+use ua_value::{DateTime, NoMemory, UaBytes};
 
 /// The status of what went well.
 const GOOD: u32 = 0;
