@@ -1,11 +1,11 @@
 -- The bytes of a frame, put one after another.
-use Rattle.std.proofs.Common.{◌≡◌, ℕ, ◌+◌, List, [], ◌∷◌, ◌++◌, length, Result, Ok, Err, ap, ◌∙◌, arith, append_assoc}
+use Rattle.std.proofs.Common.{◌≡◌, ℕ, ◌+◌, List, [], ◌∷◌, ◌++◌, length, Result, Ok, Err, refl, ap, ◌∙◌, arith, append_assoc, slice_index_or}
 use Rattle.std.specs.Prelude.{if◌then◌else◌, is_ok, OnOk}
 use Rattle.std.specs.Int.{w32, to_le_bytes}
 use Rattle.ua_value.specs.Number.{unsigned}
 use Rattle.ua_frame.specs.Layout.{header, name_of}
 use Rattle.ua_frame.specs.declared.kind.Kind.{Kind}
-use Rattle.ua_frame.specs.declared.kind.Kind.TheVariants.{Open}
+use Rattle.ua_frame.specs.declared.kind.Kind.TheVariants.{Hello, Acknowledge, Error, ReverseHello, Open, Message, Close}
 use Rattle.ua_value.specs.Text.{bytes_of, null}
 use Rattle.ua_chunk.specs.Layout.{chunk_header, open_header, policy_none}
 use Rattle.ua_chunk.specs.Written.{chunk_frame, open_frame}
@@ -14,9 +14,8 @@ pub ok_is : {T E : Type 0} (r : Result T E) (new old more target : List ℕ) →
 ok_is (Ok x) new old more target e h = e ∙ h
 ok_is (Err e) new old more target f h = tt
 
-behind : (o n f s a b c d body : List ℕ)
-    → ((o ++ n) ++ (f ++ s ++ a ++ b ++ c ++ d)) ++ body ≡ o ++ ((n ++ f ++ s) ++ ((a ++ (b ++ (c ++ d))) ++ body))
-behind o n f s a b c d body = simp append_assoc
+behind : (n f s a b c d body : List ℕ) → (n ++ f ++ s ++ a ++ b ++ c ++ d) ++ body ≡ (n ++ f ++ s) ++ ((a ++ (b ++ (c ++ d))) ++ body)
+behind n f s a b c d body = simp append_assoc
 
 abbrev le : ℕ → List ℕ
 le n = to_le_bytes w32 n
@@ -30,16 +29,35 @@ chunk_spelled kind flag channel token number id body =
     let len : 16 + length body ≡ length fields = omega arith in
     ap (λ (n : ℕ). header kind flag n ++ fields) len
 
-pub chunk_written : (kind : Kind) (flag channel token number id : ℕ) (name numbers body o p q r : List ℕ) → name ≡ name_of kind
-    → numbers ≡ (flag ∷ []) ++ le (8 + (16 + length body)) ++ le channel ++ le token ++ le number ++ le id
-    → p ≡ o → q ≡ p ++ name → r ≡ q ++ numbers → r ++ body ≡ o ++ chunk_frame kind flag channel token number id body
-chunk_written kind flag channel token number id name numbers body o p q r is all e1 e2 e3 =
-    let l = le (8 + (16 + length body)) in
-    let two : q ≡ o ++ name_of kind = e2 ∙ ap (λ (b : List ℕ). b ++ name) e1 ∙ ap (λ (b : List ℕ). o ++ b) is in
-    let three : r ≡ (o ++ name_of kind) ++ numbers = e3 ∙ ap (λ (b : List ℕ). b ++ numbers) two in
-    ap (λ (b : List ℕ). b ++ body) (three ∙ ap (λ (b : List ℕ). (o ++ name_of kind) ++ b) all)
-    ∙ behind o (name_of kind) (flag ∷ []) l (le channel) (le token) (le number) (le id) body
-    ∙ ap (λ (b : List ℕ). o ++ b) (chunk_spelled kind flag channel token number id body)
+abbrev three : List ℕ → List ℕ
+three bytes = slice_index_or bytes 0 0 ∷ slice_index_or bytes 1 0 ∷ slice_index_or bytes 2 0 ∷ []
+
+abbrev four : List ℕ → List ℕ
+four bytes = slice_index_or bytes 0 0 ∷ slice_index_or bytes 1 0 ∷ slice_index_or bytes 2 0 ∷ slice_index_or bytes 3 0 ∷ []
+
+three_of_name : (kind : Kind) → three (name_of kind) ≡ name_of kind
+three_of_name Hello = refl
+three_of_name Acknowledge = refl
+three_of_name Error = refl
+three_of_name ReverseHello = refl
+three_of_name Open = refl
+three_of_name Message = refl
+three_of_name Close = refl
+
+-- what stands before the body, byte by byte
+pub header_spelled : (kind : Kind) (flag channel token number id len : ℕ) (name l a b c d : List ℕ) → name ≡ name_of kind → l ≡ le (24 + len)
+    → a ≡ le channel → b ≡ le token → c ≡ le number → d ≡ le id → (body : List ℕ) → length body ≡ len
+    → (three name ++ (flag ∷ []) ++ four l ++ four a ++ four b ++ four c ++ four d) ++ body ≡ chunk_frame kind flag channel token number id body
+header_spelled kind flag channel token number id len name l a b c d e0 e1 e2 e3 e4 e5 body is =
+    let size : 24 + len ≡ 8 + (16 + length body) = omega (arith, is) in
+    let named : three name ≡ name_of kind = ap three e0 ∙ three_of_name kind in
+    (λ i. (named i ++ (flag ∷ []) ++ four ((e1 ∙ ap le size) i) ++ four (e2 i) ++ four (e3 i) ++ four (e4 i) ++ four (e5 i)) ++ body)
+    ∙ behind (name_of kind) (flag ∷ []) (le (8 + (16 + length body))) (le channel) (le token) (le number) (le id) body
+    ∙ chunk_spelled kind flag channel token number id body
+
+pub chunk_written : (frame front body o p q : List ℕ) → front ++ body ≡ frame → p ≡ o → q ≡ p ++ front → q ++ body ≡ o ++ frame
+chunk_written frame front body o p q is e1 e2 =
+    ap (λ (b : List ℕ). b ++ body) (e2 ∙ ap (λ (b : List ℕ). b ++ front) e1) ∙ append_assoc o front body ∙ ap (λ (b : List ℕ). o ++ b) is
 
 -- ---- OPN
 

@@ -1,7 +1,6 @@
--- The chunks of a message, written one after another.
-use Rattle.std.proofs.Common.{◌≡◌, ℕ, ◌+◌, ◌-◌, ◌<◌, ◌≤◌, List, ◌++◌, length, take, drop, Result, Ok, Err, sym, ap, ◌∙◌, arith}
-use Rattle.std.specs.Prelude.{if◌then◌else◌, is_ok, OnOk}
-use Rattle.std.proofs.lemmas.List.{length-drop, length-take, take-append-le}
+-- The chunks of a message, made one after another.
+use Rattle.std.proofs.Common.{◌≡◌, ℕ, ◌+◌, ◌-◌, ◌<◌, ◌≤◌, suc, ◌*◌, List, ◌++◌, length, take, drop, sym, ap, ◌∙◌, arith}
+use Rattle.std.proofs.lemmas.List.{length-drop}
 use Rattle.ua_chunk.specs.Numbers.{number_after}
 use Rattle.ua_chunk.specs.NumberLaws.{IsNumber, number_after_more}
 use Rattle.ua_chunk.specs.Cut.{part_count, fill}
@@ -26,19 +25,20 @@ more_counted n m k target rest others pos is lt e1 e2 goal =
     let more : part_count (length rest) k ≡ 1 + c = part_count_more (length rest) k pos lt ∙ omega arith in
     (λ i. number_after (e1 i) (part_count (len i) k)) ∙ number_after_more n 1 c is.some ∙ ap (number_after n) (sym more) ∙ goal
 
-pub all_sent : {T E : Type 0} (r : Result T E) (o p target : List ℕ) (channel token n id k : ℕ) (rest : List ℕ) → 1 ≤ k → IsNumber n → length rest ≤ k
-    → p ≡ (if is_ok r then o ++ part_frame channel token n (record { id = id; flag = 70; bytes = rest }) else o)
-    → o ++ message_frames channel token n 0 (fill id rest k) ≡ target → OnOk r (p ≡ target)
-all_sent (Ok x) o p target channel token n id k rest pos is le e goal = e ∙ last_written o channel token n id k rest pos is le ∙ goal
-all_sent (Err f) o p target channel token n id k rest pos is le e goal = tt
+-- the last part behind the others is all
+pub all_sent : (o p target : List ℕ) (channel token n id k : ℕ) (rest : List ℕ) → 1 ≤ k → IsNumber n → length rest ≤ k
+    → p ≡ o ++ part_frame channel token n (record { id = id; flag = 70; bytes = rest })
+    → o ++ message_frames channel token n 0 (fill id rest k) ≡ target → p ≡ target
+all_sent o p target channel token n id k rest pos is le e goal = e ∙ last_written o channel token n id k rest pos is le ∙ goal
 
-pub all_counted : {T E : Type 0} (r : Result T E) (n m k target : ℕ) (rest : List ℕ) → 1 ≤ k → length rest ≤ k → m ≡ (if is_ok r then number_after n 1 else n)
-    → number_after n (part_count (length rest) k) ≡ target → OnOk r (m ≡ target)
-all_counted (Ok x) n m k target rest pos le e goal = e ∙ ap (number_after n) (sym (part_count_last (length rest) k pos le)) ∙ goal
-all_counted (Err f) n m k target rest pos le e goal = tt
+-- the gap has 24 bytes for each part that is not yet placed
+pub gap_left : (at from k : ℕ) (rest others : List ℕ) → 1 ≤ k → k < length rest → others ≡ drop k rest
+    → from ≡ at + 24 * part_count (length rest) k → from + k ≡ at + (24 + k) + 24 * part_count (length others) k
+gap_left at from k rest others pos lt e gap =
+    let len : length others ≡ length rest - k = ap length e ∙ length-drop k rest in
+    let more : part_count (length rest) k ≡ suc (part_count (length others) k) = part_count_more (length rest) k pos lt ∙ ap (λ (n : ℕ). suc (part_count n k)) (sym len) in
+    omega (arith, gap, more)
 
--- what stood at the front stands there
-pub still_kept : (first o p more : List ℕ) → take (length first) o ≡ first → p ≡ o ++ more → take (length first) p ≡ first
-still_kept first o p more kept e =
-    let short : length first ≤ length o = omega (arith, ap length kept, length-take (length first) o) in
-    ap (take (length first)) e ∙ take-append-le (length first) o more short ∙ kept
+-- for the last part it has its header
+pub gap_last : (at from k : ℕ) (rest : List ℕ) → 1 ≤ k → length rest ≤ k → from ≡ at + 24 * part_count (length rest) k → from ≡ at + 24
+gap_last at from k rest pos le gap = omega (arith, gap, part_count_last (length rest) k pos le)

@@ -1,4 +1,4 @@
-//! Chunks of messages: their headers, sequence numbers, assembly and aborts.
+//! Chunks of messages: their headers, sequence numbers, assembly and aborts; messages that are written in chunks.
 #![tactic(auto)]
 
 mod abort;
@@ -6,6 +6,7 @@ mod assembly;
 mod chunk;
 mod content;
 pub mod laws;
+mod message;
 mod opening;
 mod sequence;
 mod writing;
@@ -13,7 +14,8 @@ mod writing;
 pub use assembly::{Added, Assembly};
 pub use chunk::{Chunk, message_chunk};
 pub use content::{Content, ContentFault, content_of};
+pub use message::{chunk_count, write_chunks, write_message};
 pub use opening::{OpenChunk, open_chunk};
 pub use sequence::{Sequence, follows};
 pub use ua_frame::POLICY_NONE;
-pub use writing::{Head, chunk_count, write_abort, write_chunks, write_close, write_open};
+pub use writing::{Head, write_abort, write_close, write_open};

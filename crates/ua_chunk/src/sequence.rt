@@ -64,11 +64,4 @@ impl Sequence {
     {
         self.next
     }
-
-    /// The same numbers, to be given once more where a writer fails.
-    pub(crate) fn again(&self) -> Sequence
-        ensures { result ≡ self.now }
-    {
-        Sequence { next: self.next }
-    }
 }

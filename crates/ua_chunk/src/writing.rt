@@ -1,19 +1,18 @@
-//! Frames that are written.
+//! Frames that are written, but those of messages.
 
-ghost use Rattle.std.specs.Prelude.{◌≡◌, ◌+◌, ◌<◌, ◌≤◌, ◌^◌, ◌++◌, ◌∷◌, [], length, take, is_ok, if◌then◌else◌, OnOk, OnErr};
+ghost use Rattle.std.specs.Prelude.{◌≡◌, ◌+◌, ◌<◌, ◌≤◌, ◌^◌, ◌++◌, List, ℕ, length, take, is_ok, if◌then◌else◌, OnOk, OnErr};
 ghost use Rattle.std.specs.Int.{w32, to_le_bytes};
 ghost use Rattle.ua_frame.specs.Layout.{header};
 ghost use Rattle.ua_chunk.specs.Numbers.{number_after};
 ghost use Rattle.ua_chunk.specs.NumberLaws.{IsNumber};
-ghost use Rattle.ua_chunk.specs.Cut.{part_count, fill};
-ghost use Rattle.ua_chunk.specs.Written.{open_frame, chunk_frame, close_frame, abort_frame, message_frames};
+ghost use Rattle.ua_chunk.specs.Written.{open_frame, chunk_frame, close_frame, abort_frame};
 
 use crate::sequence::Sequence;
 use ua_frame::{HEADER, Kind, POLICY_NONE};
 use ua_value::NoMemory;
 
-/// Bytes of a chunk's numbers: channel id, token id, sequence number and request id.
-const NUMBERS: u32 = 16;
+/// Bytes before the body of a chunk's frame: type, flag, size, channel id, token id, sequence number and request id.
+pub(crate) const CHUNK_HEADER: u32 = 24;
 
 /// Bytes of an OPN's fields before the body, by the policy None.
 const OPEN_FIELDS: u32 = 71;
@@ -32,18 +31,6 @@ pub struct Head {
     pub request_id: u32,
 }
 
-/// How many chunks hold a message of `len` bytes with at most `part_limit` bytes in each. An empty message has one.
-/// OPC 10000-6, 6.7.2.
-pub fn chunk_count(len: u64, part_limit: u32) -> u64
-    requires { 1 ≤ part_limit }
-    ensures { result ≡ part_count len part_limit }
-{
-    match len {
-        0 => 1,
-        _ => (len - 1) / part_limit as u64 + 1,
-    }
-}
-
 fn put_header(kind: Kind, flag: u8, len: u32, out: &mut Vec<u8>) -> Result<(), NoMemory>
     requires { 8 + len < 2 ^ 32 }
     ensures ok { OnOk result (out.new.items ≡ out.old.items ++ header kind flag len) }
@@ -60,18 +47,21 @@ fn put_number(number: u32, out: &mut Vec<u8>) -> Result<(), NoMemory>
     out.extend_from_slice(&number.to_le_bytes())
 }
 
-/// What stands between the type of a chunk's frame and its body: flag, size and numbers.
-fn numbers(flag: u8, head: &Head, number: u32, len: u32) -> [u8; 21]
+/// What stands before the body of a chunk's frame, where the body has `len` bytes.
+pub(crate) fn chunk_header(kind: Kind, flag: u8, head: &Head, number: u32, len: u32) -> [u8; 24]
     requires { 24 + len < 2 ^ 32 }
-    ensures { result ≡ (flag ∷ []) ++ to_le_bytes w32 (8 + (16 + len)) ++ to_le_bytes w32 head.now.channel ++ to_le_bytes w32 head.now.token ++ to_le_bytes w32 number ++ to_le_bytes w32 head.now.request_id }
+    ensures { (body : List ℕ) → length body ≡ len → result ++ body ≡ chunk_frame kind flag head.now.channel head.now.token number head.now.request_id body }
 {
-    let [l0, l1, l2, l3] = (HEADER + NUMBERS + len).to_le_bytes();
+    let name = kind.name();
+    let (k0, k1, k2) = (name[0], name[1], name[2]);
+    let [l0, l1, l2, l3] = (CHUNK_HEADER + len).to_le_bytes();
     let [c0, c1, c2, c3] = head.channel.to_le_bytes();
     let [t0, t1, t2, t3] = head.token.to_le_bytes();
     let [n0, n1, n2, n3] = number.to_le_bytes();
     let [r0, r1, r2, r3] = head.request_id.to_le_bytes();
     [
-        flag, l0, l1, l2, l3, c0, c1, c2, c3, t0, t1, t2, t3, n0, n1, n2, n3, r0, r1, r2, r3,
+        k0, k1, k2, flag, l0, l1, l2, l3, c0, c1, c2, c3, t0, t1, t2, t3, n0, n1, n2, n3, r0, r1,
+        r2, r3,
     ]
 }
 
@@ -89,9 +79,8 @@ fn put_chunk(
     ensures err { OnErr result (take (length out.old.items) out.new.items ≡ out.old.items) }
 {
     let len = body.len() as u32;
-    out.reserve((HEADER + NUMBERS + len) as usize)?;
-    out.extend_from_slice(kind.name())?;
-    out.extend_from_slice(&numbers(flag, head, number, len))?;
+    out.reserve((CHUNK_HEADER + len) as usize)?;
+    out.extend_from_slice(&chunk_header(kind, flag, head, number, len))?;
     out.extend_from_slice(body)
 }
 
@@ -136,62 +125,6 @@ fn write_chunk(
     match put_chunk(kind, flag, head, sequence.peek(), body, out) {
         Ok(()) => {
             sequence.take();
-            Ok(())
-        }
-        Err(e) => {
-            out.truncate(start);
-            Err(e)
-        }
-    }
-}
-
-/// Appends the chunks of a message, or where memory runs out some of them.
-fn put_message(
-    body: &[u8],
-    head: &Head,
-    part_limit: usize,
-    sequence: &mut Sequence,
-    out: &mut Vec<u8>,
-) -> Result<(), NoMemory>
-    requires some { 1 ≤ part_limit }
-    requires least { part_limit ≤ 1048552 }
-    ensures ok { OnOk result (out.new.items ≡ out.old.items ++ message_frames head.now.channel head.now.token sequence.old 0 (fill head.now.request_id body.now part_limit)) }
-    ensures numbered { OnOk result (sequence.new ≡ number_after sequence.old (part_count (length body.now) part_limit)) }
-    ensures err { OnErr result (take (length out.old.items) out.new.items ≡ out.old.items) }
-{
-    let mut rest = body;
-    while rest.len() > part_limit {
-        let (part, others) = rest.split_at(part_limit);
-        write_chunk(Kind::Message, b'C', head, sequence, part, out)?;
-        rest = others;
-    }
-    write_chunk(Kind::Message, b'F', head, sequence, rest, out)
-}
-
-/// Appends the MSG frames of a message: parts of `part_limit` bytes, the last of 1 to `part_limit` bytes, and one empty
-/// part for an empty `body`. Each is flagged `C` but the last, which is `F`, and each has the next sequence number.
-/// OPC 10000-6, 6.7.2.2 to 6.7.2.4.
-///
-/// # Errors
-///
-/// `NoMemory` where the growth of `out` is refused; `out` and `sequence` are then unchanged.
-pub fn write_chunks(
-    body: &[u8],
-    head: &Head,
-    part_limit: u32,
-    sequence: &mut Sequence,
-    out: &mut Vec<u8>,
-) -> Result<(), NoMemory>
-    requires some { 1 ≤ part_limit }
-    requires least { part_limit ≤ 1048552 }
-    ensures written { out.new.items ≡ (if is_ok result then out.old.items ++ message_frames head.now.channel head.now.token sequence.old 0 (fill head.now.request_id body.now part_limit) else out.old.items) }
-    ensures numbered { sequence.new ≡ (if is_ok result then number_after sequence.old (part_count (length body.now) part_limit) else sequence.old) }
-{
-    let start = out.len();
-    let mut numbers = sequence.again();
-    match put_message(body, head, part_limit as usize, &mut numbers, out) {
-        Ok(()) => {
-            *sequence = numbers;
             Ok(())
         }
         Err(e) => {
