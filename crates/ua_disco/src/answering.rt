@@ -15,7 +15,7 @@ use ua_service::{
 use ua_value::NoMemory;
 
 /// The service is not one that the server offers (OPC 10000-4, 7.39).
-const BAD_SERVICE_UNSUPPORTED: u32 = 0x800B_0000;
+pub(crate) const BAD_SERVICE_UNSUPPORTED: u32 = 0x800B_0000;
 
 /// The applications that the request asks for.
 #[tactic(auto, unfolding(crate::specs::Answers::servers_found))]

@@ -1,13 +1,14 @@
 //! The application of a server, as it is set up.
 
-ghost use Rattle.std.specs.Prelude.{◌≡◌, ◌++◌, IfOk, OnOk};
+ghost use Rattle.std.specs.Prelude.{◌≡◌, ◌≤◌, ◌++◌, length, IfOk, OnOk, OnErr};
+ghost use Rattle.ua_value.specs.Format.{AppendsPart};
 ghost use Rattle.ua_service.specs.Application.{application_description};
 ghost use Rattle.ua_disco.specs.Answers.{described};
 
 use crate::names::Names;
 use ua_service::ApplicationDescription;
 use ua_value::plumbing::{Parts, copy_three};
-use ua_value::{Array, LocalizedText, NoMemory, UaString};
+use ua_value::{Array, LocalizedText, NoMemory, Sink, UaString, Wire};
 
 /// An application as it is set up (OPC 10000-4, 7.2), with its name in several languages.
 #[derive(Drop)]
@@ -47,21 +48,51 @@ impl Application {
             discovery_urls,
         })
     }
+}
 
-    /// Puts what its description is written as, under one of its names, with none made.
+/// An application under one of its names, both lent: what its description is written as, with none made.
+#[derive(Clone, Copy)]
+pub(crate) struct NamedApplication<'a> {
+    pub(crate) application: &'a Application,
+    pub(crate) name: &'a LocalizedText,
+}
+
+impl<'a> NamedApplication<'a> {
+    /// The length of what its description is written as, in bytes.
     #[tactic(auto, unfolding(ua_service::specs::Application::application_description))]
-    pub(crate) fn put(&self, name: &LocalizedText, out: &mut Vec<u8>) -> Result<(), NoMemory>
-        ensures { OnOk result (out.new.items ≡ out.old.items ++ application_description.canon (described self.now name.now)) }
+    pub(crate) fn len(&self) -> u64
+        ensures length { result ≡ length (application_description.canon (described self.now.application.now self.now.name.now)) }
+        ensures few { result ≤ 1152921517491748891 }
     {
+        let application = self.application;
+        application.uri.len()
+            + application.product_uri.len()
+            + self.name.len()
+            + application.kind.len()
+            + application.gateway_uri.len()
+            + application.profile_uri.len()
+            + application.discovery_urls.len()
+    }
+}
+
+#[tactic(auto, unfolding(ua_service::specs::Application::application_description))]
+impl<'a> Parts for NamedApplication<'a> {
+    ghost spelling = { λ p. application_description.canon (described p.application.now p.name.now) };
+
+    fn emit_parts<S: Sink>(&self, out: &mut S) -> Result<(), NoMemory> {
+        let application = self.application;
         (
-            &self.uri,
+            &application.uri,
             (
-                &self.product_uri,
+                &application.product_uri,
                 (
-                    name,
+                    self.name,
                     (
-                        &self.kind,
-                        (&self.gateway_uri, (&self.profile_uri, &self.discovery_urls)),
+                        &application.kind,
+                        (
+                            &application.gateway_uri,
+                            (&application.profile_uri, &application.discovery_urls),
+                        ),
                     ),
                 ),
             ),

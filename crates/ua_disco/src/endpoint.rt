@@ -1,13 +1,15 @@
 //! The endpoints of a server, as they are set up.
 
-ghost use Rattle.std.specs.Prelude.{◌≡◌, ◌++◌, IfOk, OnOk};
+ghost use Rattle.std.specs.Prelude.{◌≡◌, ◌≤◌, ◌++◌, length, IfOk, OnOk, OnErr};
+ghost use Rattle.ua_value.specs.Format.{AppendsPart};
 ghost use Rattle.ua_service.specs.Endpoint.{endpoint_description};
 ghost use Rattle.ua_disco.specs.Answers.{described_endpoint};
 
-use crate::application::Application;
+use crate::application::{Application, NamedApplication};
+use crate::then::Then;
 use ua_service::{EndpointDescription, UserTokenPolicy};
 use ua_value::plumbing::{Parts, copy_three, copy_two};
-use ua_value::{Array, LocalizedText, NoMemory, UaBytes, UaString, Wire};
+use ua_value::{Array, LocalizedText, NoMemory, Sink, UaBytes, UaString, Wire};
 
 /// An endpoint as it is set up (OPC 10000-4, 7.14).
 #[derive(Drop)]
@@ -50,23 +52,49 @@ impl Endpoint {
         })
     }
 
-    /// Puts what its description is written as, as an endpoint of the application under one of its names, with none made.
-    pub(crate) fn put(
-        &self,
-        application: &Application,
-        name: &LocalizedText,
-        out: &mut Vec<u8>,
-    ) -> Result<(), NoMemory>
-        ensures { OnOk result (out.new.items ≡ out.old.items ++ endpoint_description.canon (described_endpoint application.now name.now self.now)) }
+    /// The length of what its description is written as, as an endpoint of the application, in bytes.
+    #[tactic(auto, unfolding(ua_service::specs::Endpoint::endpoint_description))]
+    pub(crate) fn len(&self, server: &NamedApplication<'_>) -> u64
+        ensures length { result ≡ length (endpoint_description.canon (described_endpoint server.now.application.now server.now.name.now self.now)) }
+        ensures few { result ≤ 2305843030688530480 }
     {
-        self.url.emit(out)?;
-        application.put(name, out)?;
-        (
+        self.url.len()
+            + server.len()
+            + self.certificate.len()
+            + self.mode.len()
+            + self.policy.len()
+            + self.tokens.len()
+            + self.transport.len()
+            + self.level.len()
+    }
+
+    /// Puts what its description is written as, as an endpoint of the application, with none made.
+    ///
+    /// # Errors
+    ///
+    /// `NoMemory` where a growth was refused; a beginning of it may have been put.
+    #[tactic(auto, unfolding(ua_service::specs::Endpoint::endpoint_description))]
+    pub(crate) fn put<S: Sink>(
+        &self,
+        server: &NamedApplication<'_>,
+        out: &mut S,
+    ) -> Result<(), NoMemory>
+        ensures ok { OnOk result (S.contents out.new ≡ S.contents out.old ++ endpoint_description.canon (described_endpoint server.now.application.now server.now.name.now self.now)) }
+        ensures err { OnErr result (AppendsPart (S.contents out.old) (S.contents out.new) (endpoint_description.canon (described_endpoint server.now.application.now server.now.name.now self.now))) }
+    {
+        let behind = (
             &self.certificate,
             (
                 &self.mode,
                 (&self.policy, (&self.tokens, (&self.transport, &self.level))),
             ),
+        );
+        (
+            &self.url,
+            Then {
+                first: *server,
+                behind,
+            },
         )
             .emit_parts(out)
     }

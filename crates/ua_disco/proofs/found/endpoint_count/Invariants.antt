@@ -2,7 +2,7 @@ use Rattle.std.proofs.Common.{◌≡◌, ◌≤◌, length, take}
 use Rattle.std.specs.Prelude.{IfSome}
 use Rattle.std.specs.List.{filter}
 use Rattle.ua_disco.specs.Choosing.{is_asked}
-use Rattle.ua_disco.proofs.bodies.endpoint_count.Given as goal
+use Rattle.ua_disco.proofs.found.endpoint_count.Given as goal
 
 abbrev pub invariant-loop-endpoint : goal.invariant-loop-endpoint
 invariant-loop-endpoint l = IfSome l.judged (λ j. j.1 ≡ is_asked l.request.profile_uris j.0.now)

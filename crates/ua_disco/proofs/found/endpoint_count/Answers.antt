@@ -1,8 +1,8 @@
-use Rattle.std.proofs.Common.{◌≡◌, ◌∙◌, sym, length}
+use Rattle.std.proofs.Common.{◌∙◌, sym}
 use Rattle.std.proofs.lemmas.List.{take_all, length-map}
 use Rattle.ua_disco.specs.Answers.{endpoints_found}
 use Rattle.ua_disco.specs.Sizes.{endpoints_count}
-use Rattle.ua_disco.proofs.bodies.endpoint_count.Goals as goal
+use Rattle.ua_disco.proofs.found.endpoint_count.Goals as goal
 
 pub returns-clause-count : goal.returns-clause-count
 unfolding endpoints_found

@@ -1,0 +1,11 @@
+use Rattle.std.proofs.Common.{◌≡◌, ◌++◌, map, take}
+use Rattle.std.specs.Prelude.{IfSome}
+use Rattle.std.specs.List.{flat_map, filter}
+use Rattle.ua_service.specs.Endpoint.{endpoint_description}
+use Rattle.ua_disco.specs.Choosing.{is_asked}
+use Rattle.ua_disco.specs.Answers.{described_endpoint}
+use Rattle.ua_disco.proofs.found.put_endpoints.Given as goal
+
+abbrev pub invariant-loop-endpoint : goal.invariant-loop-endpoint
+invariant-loop-endpoint g l = IfSome l.judged (λ j. j.1 ≡ is_asked l.request.profile_uris j.0.now)
+    × (g.S.Sink.contents l.out ≡ g.S.Sink.contents l.fn.out ++ flat_map endpoint_description.canon (map (described_endpoint l.server.application.now l.server.name.now) (filter (λ e. is_asked l.request.profile_uris e.transport) (take l.endpoint-index l.offered))))
