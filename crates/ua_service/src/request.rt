@@ -12,7 +12,7 @@ use crate::headers::RequestHeader;
 use crate::other::OtherRequest;
 use std::alloc::Global;
 use ua_value::plumbing::{Parts, read_whole};
-use ua_value::{NoMemory, NodeId, ReadFault, Sink, Wire};
+use ua_value::{Emit, NoMemory, NodeId, ReadFault, Sink, Wire};
 
 /// What a client asks for over an open channel.
 #[derive(Debug, Drop)]
@@ -89,4 +89,17 @@ impl Body for Request {
     }
 
     ghost laws = { lawful_request };
+}
+
+/// Its canonical body.
+impl Emit for Request {
+    ghost spelling = { request_message.canon };
+
+    fn emit_len(&self) -> u64 {
+        self.body_len()
+    }
+
+    fn emit<S: Sink>(&self, sink: &mut S) -> Result<(), NoMemory> {
+        self.emit_body(sink)
+    }
 }

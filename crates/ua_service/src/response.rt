@@ -9,7 +9,7 @@ use crate::encoding::{FIND_SERVERS_RESPONSE, GET_ENDPOINTS_RESPONSE, SERVICE_FAU
 use crate::headers::ServiceFault;
 use std::alloc::Global;
 use ua_value::plumbing::{Parts, read_whole};
-use ua_value::{NoMemory, NodeId, ReadFault, Sink, Wire};
+use ua_value::{Emit, NoMemory, NodeId, ReadFault, Sink, Wire};
 
 /// What a server answers over an open channel.
 #[derive(Debug, Drop)]
@@ -57,4 +57,17 @@ impl Body for Response {
     }
 
     ghost laws = { lawful_response };
+}
+
+/// Its canonical body.
+impl Emit for Response {
+    ghost spelling = { response_message.canon };
+
+    fn emit_len(&self) -> u64 {
+        self.body_len()
+    }
+
+    fn emit<S: Sink>(&self, sink: &mut S) -> Result<(), NoMemory> {
+        self.emit_body(sink)
+    }
 }
