@@ -3,10 +3,8 @@
 use std::alloc::Global;
 use ua_conn::{Answer, AnswerResult, Client, ClientConfig, End, Server};
 use ua_disco::{DEFAULT, Settings};
-use ua_service::{FindServersRequest, Request, RequestHeader};
-use ua_value::plumbing::let_go;
-use ua_value::{Array, DateTime, Identifier, NodeId, UaString};
-use ua_variant::{ExtensionBody, ExtensionObject};
+use ua_service::{FindServersRequest, Request, request_header};
+use ua_value::{Array, DateTime, UaString};
 
 /// 2026-01-01 00:00 UTC in ticks of 100 ns since 1601-01-01 UTC. A program asks its clock.
 const NOW: i64 = 134_116_992_000_000_000;
@@ -18,29 +16,10 @@ const CONFIG: ClientConfig = ClientConfig {
     lifetime: 3_600_000,
 };
 
-fn null_id() -> NodeId {
-    NodeId {
-        namespace_index: 0,
-        identifier: Identifier::Numeric(0),
-    }
-}
-
 /// FindServers: every server that the receiver knows of, with names in any language.
 fn find_servers() -> Request {
-    let header = RequestHeader {
-        authentication_token: null_id(),
-        timestamp: DateTime(NOW),
-        request_handle: 1,
-        return_diagnostics: 0,
-        audit_entry_id: UaString::null(),
-        timeout_hint: 0,
-        additional_header: ExtensionObject {
-            type_id: null_id(),
-            body: ExtensionBody::None,
-        },
-    };
     Request::FindServers(FindServersRequest {
-        header,
+        header: request_header(DateTime(NOW), 1),
         endpoint_url: UaString::null(),
         locale_ids: Array::null(),
         server_uris: Array::null(),
@@ -77,13 +56,7 @@ fn exchange(
 
 /// Asks the request, in parts of 8168 bytes, which fit into the frames of every server.
 fn asks(client: &mut Client, request: Request) -> bool {
-    match client.ask(NOW, request, 8168) {
-        Ok(_) => true,
-        Err((_, request)) => {
-            let_go(request);
-            false
-        }
-    }
+    client.ask(NOW, request, 8168).is_ok()
 }
 
 /// Opens a channel, finds the servers, and closes the channel.

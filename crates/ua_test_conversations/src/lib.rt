@@ -39,6 +39,8 @@ mod limits;
 #[cfg(test)]
 mod links;
 #[cfg(test)]
+mod loopback;
+#[cfg(test)]
 mod many;
 #[cfg(test)]
 mod memory;

@@ -3,8 +3,11 @@
 use crate::vectors::{ABORT_TOO_LARGE, CLOSE_REQUEST, FIND_BODY, FIND_REQUEST, OPEN_RESPONSE};
 use std::alloc::Global;
 use ua_chunk::{
-    Head, Sequence, chunk_count, follows, write_abort, write_chunks, write_close, write_open,
+    Head, Sequence, chunk_count, follows, write_abort, write_chunks, write_close, write_message,
+    write_open,
 };
+use ua_service::{Request, request_header};
+use ua_value::{DateTime, NodeId};
 
 pub(crate) const HEAD: Head = Head {
     channel: 1,
@@ -143,4 +146,56 @@ fn singles_are_written(alloc: Global) -> bool {
 #[test]
 fn single_frames_are_written(rt: HostRuntime) {
     assert!(rt; singles_are_written(rt.alloc()));
+}
+
+/// The body of a request of the service 72, with the handle 2 and no further fields.
+const OTHER_BODY: &[u8] =
+    b"\0\x48\0\0\0\0\0\0\0\0\0\0\x02\0\0\0\0\0\0\0\xFF\xFF\xFF\xFF\0\0\0\0\0\0\0";
+
+/// Whether the chunk is the one with this flag, number and byte.
+fn is_part(chunk: &[u8], flag: u8, number: u32, byte: u8) -> bool {
+    let [a, b, c, d] = number.to_le_bytes();
+    let want = [
+        b'M', b'S', b'G', flag, 25, 0, 0, 0, 1, 0, 0, 0, 1, 0, 0, 0, a, b, c, d, 2, 0, 0, 0, byte,
+    ];
+    chunk == want.as_slice()
+}
+
+/// Whether the chunks have the bytes of the body, one in each, with numbers from 2 on.
+fn are_parts(chunks: &[u8], body: &[u8]) -> bool {
+    let mut number: u32 = 2;
+    let mut rest = chunks;
+    for byte in body {
+        let flag = if rest.len() == 25 { b'F' } else { b'C' };
+        let Some((chunk, others)) = rest.split_at_checked(25) else {
+            return false;
+        };
+        if !is_part(chunk, flag, number, *byte) {
+            return false;
+        }
+        number = number.wrapping_add(1);
+        rest = others;
+    }
+    rest.is_empty()
+}
+
+/// Whether the request is written in 31 parts of one byte.
+fn is_written_in_bytes(alloc: Global, request: &Request) -> bool {
+    let mut out = Vec::new(alloc);
+    let mut sequence = Sequence::starting_at(2);
+    write_message(request, &HEAD, 1, &mut sequence, &mut out).is_ok()
+        && out.len() == 775
+        && are_parts(out.as_slice(), OTHER_BODY)
+        && sequence.take() == 33
+}
+
+#[test]
+fn requests_are_written_straight_into_chunks(rt: HostRuntime) {
+    let id = NodeId::numeric(0, 72);
+    let rest = Vec::new(rt.alloc());
+    let written = match Request::other(id, request_header(DateTime(0), 2), rest) {
+        Some(request) => is_written_in_bytes(rt.alloc(), &request),
+        None => false,
+    };
+    assert!(rt; written);
 }

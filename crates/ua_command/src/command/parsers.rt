@@ -10,7 +10,7 @@ use clap::{Arg, ArgAction, Command as Parser};
 use std::alloc::{AllocError, Global};
 
 /// The version of the program, and the line by which its kit tells itself apart (`rt version`).
-const VERSION: &str = "0.1.0 (rattle-kit-13b logic dac8208d650f15bf)";
+const VERSION: &str = "0.1.0 (rattle-kit-13f logic dac8208d650f15bf)";
 
 /// A word that has to be there, with its name and its line in the help.
 fn required<'a>(alloc: Global, id: &'a str, name: &'a str, help: &'a str) -> Arg<'a>

@@ -20,45 +20,14 @@ use crate::client::ask_fault::AskFault;
 use crate::client::connection::Connection;
 use crate::limits::{CHUNK_HEADER, is_over};
 use crate::moment::later;
-use std::alloc::Global;
-use ua_chunk::{Head, Sequence, chunk_count, write_chunks};
+use ua_chunk::{Head, chunk_count, write_message};
 use ua_service::{Body, Request};
-use ua_value::NoMemory;
 
 /// How many requests may be pending.
 const MOST_PENDING: usize = 64;
 
 /// The last request id.
 const LAST_ID: u64 = 4_294_967_295;
-
-/// The body of a request. OPC 10000-6, 5.2.9.
-fn body_of(alloc: Global, request: &Request) -> Result<Vec<u8>, NoMemory>
-    ensures { IfOk result (λ body. body.items ≡ canon_request request.now) }
-{
-    let mut body = Vec::new(alloc);
-    request.write_body(&mut body)?;
-    Ok(body)
-}
-
-/// Says a request in parts. After `NoMemory` nothing has changed. OPC 10000-6, 6.7.2.
-fn say_request(
-    alloc: Global,
-    head: &Head,
-    request: &Request,
-    part_limit: u32,
-    next: &mut Sequence,
-    out: &mut Vec<u8>,
-) -> Result<(), NoMemory>
-    requires some { 1 ≤ part_limit }
-    requires most { part_limit ≤ 1048552 }
-    ensures said { out.new.items ≡ (if is_ok result
-        then out.old.items ++ message_frames head.now.channel head.now.token next.old 0 (fill head.now.request_id (canon_request request.now) part_limit)
-        else out.old.items) }
-    ensures numbered { next.new ≡ (if is_ok result then number_after next.old (part_count (length (canon_request request.now)) part_limit) else next.old) }
-{
-    let body = body_of(alloc, request)?;
-    write_chunks(&body, head, part_limit, next, out)
-}
 
 impl Connection {
     /// Bytes of the longest part of a request that the server takes in one frame; 0 before the Acknowledge.
@@ -118,7 +87,7 @@ impl Connection {
             token: self.newest_token(),
             request_id: id,
         };
-        match say_request(self.alloc, &head, &request, part_limit, &mut self.next, out) {
+        match write_message(&request, &head, part_limit, &mut self.next, out) {
             Ok(()) => {
                 self.pending.add(id, request);
                 Ok(())

@@ -15,17 +15,18 @@ ghost use Rattle.ua_conn.specs.server.Parts.{gathered_rows, Gathers};
 
 use crate::limits::{CHUNK_HEADER, is_over};
 use crate::server::agreed::Agreed;
-use crate::server::answers::answer_body;
+use crate::server::answers::answer_to;
 use crate::server::connection::Connection;
 use crate::server::connection::admission::heard;
 use crate::server::fault::Fault;
 use crate::status::BAD_RESPONSE_TOO_LARGE;
 use std::alloc::Global;
-use ua_chunk::{Added, Assembly, Chunk, Head, Sequence, chunk_count, write_abort, write_chunks};
+use ua_chunk::{Added, Assembly, Chunk, Head, Sequence, chunk_count, write_abort, write_message};
 use ua_disco::Settings;
 use ua_frame::{Frame, Kind};
 use ua_service::{Request, read_request};
-use ua_value::NoMemory;
+use ua_value::plumbing::let_go;
+use ua_value::{Emit, NoMemory};
 
 /// Puts a part to those before it. The result is the request that it makes whole, if any.
 fn gather(alloc: Global, half: &mut Assembly, chunk: &Chunk) -> Result<Option<Request>, Fault>
@@ -46,12 +47,12 @@ fn gather(alloc: Global, half: &mut Assembly, chunk: &Chunk) -> Result<Option<Re
     Ok(Some(read?))
 }
 
-/// Whether an answer with this body is larger than the client takes. OPC 10000-6, 7.1.2.3.
-fn is_too_large(agreed: &Agreed, body: &[u8]) -> bool
+/// Whether an answer is larger than the client takes. OPC 10000-6, 7.1.2.3.
+fn is_too_large<M: Emit>(agreed: &Agreed, answer: &M) -> bool
     requires { IsBuffer agreed.now.ack.send }
-    ensures { result ≡ is_over_limits agreed.now body.now }
+    ensures { result ≡ is_over_limits agreed.now (M.spelling answer.now) }
 {
-    let len = body.len() as u64;
+    let len = answer.emit_len();
     is_over(agreed.answer_bytes, len)
         || is_over(
             agreed.answer_parts,
@@ -60,19 +61,19 @@ fn is_too_large(agreed: &Agreed, body: &[u8]) -> bool
 }
 
 /// Says an answer in parts, or gives it up where it is larger than the client takes. OPC 10000-6, 6.7.2 and 6.7.3.
-fn say(
+fn say<M: Emit>(
     agreed: &Agreed,
     head: &Head,
-    body: &[u8],
+    answer: &M,
     next: &mut Sequence,
     out: &mut Vec<u8>,
 ) -> Result<(), NoMemory>
     requires send { IsBuffer agreed.now.ack.send }
     requires number { IsNumber next.old }
-    ensures said { out.new.items ≡ (if is_ok result then out.old.items ++ message_frames head.now.channel head.now.token next.old 0 (answer_parts agreed.now head.now.request_id body.now) else out.old.items) }
-    ensures numbered { next.new ≡ (if is_ok result then number_after next.old (length (answer_parts agreed.now head.now.request_id body.now)) else next.old) }
+    ensures said { out.new.items ≡ (if is_ok result then out.old.items ++ message_frames head.now.channel head.now.token next.old 0 (answer_parts agreed.now head.now.request_id (M.spelling answer.now)) else out.old.items) }
+    ensures numbered { next.new ≡ (if is_ok result then number_after next.old (length (answer_parts agreed.now head.now.request_id (M.spelling answer.now))) else next.old) }
 {
-    if is_too_large(agreed, body) {
+    if is_too_large(agreed, answer) {
         return write_abort(
             head.channel,
             head.token,
@@ -82,26 +83,46 @@ fn say(
             out,
         );
     }
-    write_chunks(body, head, agreed.ack.send - CHUNK_HEADER, next, out)
+    write_message(answer, head, agreed.ack.send - CHUNK_HEADER, next, out)
 }
 
-/// Hands a request on. The result is the body of the answer to it.
+/// Says the answer to a request, and hands the request on. The answer is lent from the settings and the request, and
+/// after `NoMemory` neither is said nor handed on. OPC 10000-4, 5.5 and 7.35.
 #[inline(never)]
 fn hand_on(
-    alloc: Global,
+    agreed: &Agreed,
+    head: &Head,
     settings: &Settings,
     request: Request,
     now: u64,
+    next: &mut Sequence,
     asked: &mut Vec<Request>,
-) -> Result<Vec<u8>, NoMemory>
-    requires { now < 2 ^ 63 }
-    ensures body { IfOk result (λ body. body.items ≡ answer_body settings.now request now) }
-    ensures asked { OnOk result (asked.new.items ≡ asked.old.items ++ request ∷ []) }
-    ensures kept { OnErr result (asked.new.items ≡ asked.old.items) }
+    out: &mut Vec<u8>,
+) -> Result<(), NoMemory>
+    requires stamp { now < 2 ^ 63 }
+    requires send { IsBuffer agreed.now.ack.send }
+    requires number { IsNumber next.old }
+    ensures said { out.new.items ≡ (if is_ok result then out.old.items ++ message_frames head.now.channel head.now.token next.old 0 (answer_parts agreed.now head.now.request_id (answer_body settings.now request now)) else out.old.items) }
+    ensures numbered { next.new ≡ (if is_ok result then number_after next.old (length (answer_parts agreed.now head.now.request_id (answer_body settings.now request now))) else next.old) }
+    ensures asked { asked.new.items ≡ (if is_ok result then asked.old.items ++ request ∷ [] else asked.old.items) }
 {
-    let body = answer_body(alloc, settings, &request, now)?;
-    asked.push(request)?;
-    Ok(body)
+    let room = asked.reserve(1);
+    let said = match room {
+        Ok(()) => say(agreed, head, &answer_to(settings, &request, now), next, out),
+        Err(e) => Err(e),
+    };
+    match said {
+        Ok(()) => {
+            let Ok(()) = asked.push(request) else {
+                unreachable!()
+            };
+            Ok(())
+        }
+        Err(e) => {
+            let_go(request);
+            Err(e)
+        }
+    }
 }
 
 impl<'a> Connection<'a> {
@@ -125,15 +146,16 @@ impl<'a> Connection<'a> {
         let Some(request) = gather(self.alloc, &mut self.half, &chunk)? else {
             return Ok(());
         };
-        let body = hand_on(self.alloc, self.settings, request, now, asked)?;
-        if let Some(agreed) = self.agreed {
-            let head = Head {
-                channel: self.id,
-                token: self.channel.sending_token().unwrap(),
-                request_id: chunk.request_id(),
-            };
-            say(&agreed, &head, &body, &mut self.next, out)?;
-        }
+        let Some(agreed) = self.agreed else {
+            asked.push(request)?;
+            return Ok(());
+        };
+        let head = Head {
+            channel: self.id,
+            token: self.channel.sending_token().unwrap(),
+            request_id: chunk.request_id(),
+        };
+        hand_on(&agreed, &head, self.settings, request, now, &mut self.next, asked, out)?;
         Ok(())
     }
 }
