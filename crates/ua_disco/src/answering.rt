@@ -2,7 +2,7 @@
 
 ghost use Rattle.std.specs.Prelude.{◌≡◌, IfOk};
 ghost use Rattle.ua_disco.specs.Bounds.{IsConfiguration};
-ghost use Rattle.ua_disco.specs.Answers.{answer_of, servers_found, endpoints_found, find_servers_answer, get_endpoints_answer};
+ghost use Rattle.ua_disco.specs.Answers.{answer_of, servers_found, endpoints_found, find_servers_answer, get_endpoints_answer, unsupported};
 
 use crate::arrays::array_of;
 use crate::choosing::{asks_for, still_asks_for};
@@ -10,12 +10,13 @@ use crate::settings::Settings;
 use std::alloc::Global;
 use ua_service::{
     ApplicationDescription, EndpointDescription, FindServersRequest, FindServersResponse,
-    GetEndpointsRequest, GetEndpointsResponse, Request, Response, ServiceFault, response_header,
+    GetEndpointsRequest, GetEndpointsResponse, OtherRequest, Request, Response, ResponseHeader,
+    ServiceFault, response_header,
 };
 use ua_value::NoMemory;
 
 /// The service is not one that the server offers (OPC 10000-4, 7.39).
-pub(crate) const BAD_SERVICE_UNSUPPORTED: u32 = 0x800B_0000;
+const BAD_SERVICE_UNSUPPORTED: u32 = 0x800B_0000;
 
 /// The applications that the request asks for.
 #[tactic(auto, unfolding(crate::specs::Answers::servers_found))]
@@ -91,6 +92,14 @@ fn get_endpoints(
     })
 }
 
+/// The header of the answer to a request for a service that the server does not offer.
+pub(crate) fn fault_header(request: &OtherRequest, now: i64) -> ResponseHeader
+    ensures { result ≡ (unsupported request.now.header now).header }
+{
+    let handle = request.header().request_handle;
+    response_header(now, handle, BAD_SERVICE_UNSUPPORTED)
+}
+
 /// What a server with these settings answers to a request at the moment `now`, in ticks of 100 ns
 /// since 1601-01-01 UTC. FindServers (OPC 10000-4, 5.5.2) gets the applications whose URI is among
 /// its ServerUris, GetEndpoints (5.5.4) the endpoints whose transport profile is among its
@@ -119,10 +128,8 @@ pub fn answer(
             alloc, settings, request, now,
         )?)),
         Request::Other(request) => {
-            let handle = request.header().request_handle;
-            Ok(Response::Fault(ServiceFault {
-                header: response_header(now, handle, BAD_SERVICE_UNSUPPORTED),
-            }))
+            let header = fault_header(request, now);
+            Ok(Response::Fault(ServiceFault { header }))
         }
     }
 }

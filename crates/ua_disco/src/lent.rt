@@ -9,7 +9,7 @@ ghost use Rattle.ua_service.specs.Responses.{canon_response};
 ghost use Rattle.ua_service.specs.declared.response.Response.TheVariants as responses;
 ghost use Rattle.ua_disco.specs.Answers.{answer_of, find_servers_answer, get_endpoints_answer, unsupported};
 
-use crate::answering::BAD_SERVICE_UNSUPPORTED;
+use crate::answering::fault_header;
 use crate::found::{FoundEndpoints, asked_server, endpoint_count, endpoints_len};
 use crate::settings::Settings;
 use std::marker::Model;
@@ -122,14 +122,6 @@ fn put_endpoints_body<S: Sink>(
     let header = response_header(now, request.header.request_handle, 0);
     let found = FoundEndpoints { settings, request };
     put_response(GET_ENDPOINTS_RESPONSE, header, (&count, found), sink)
-}
-
-/// The header of the answer to a request for a service that the server does not offer.
-fn fault_header(request: &OtherRequest, now: i64) -> ResponseHeader
-    ensures { result ≡ (unsupported request.now.header now).header }
-{
-    let handle = request.header().request_handle;
-    response_header(now, handle, BAD_SERVICE_UNSUPPORTED)
 }
 
 /// Puts the answer to a request for a service that the server does not offer.
