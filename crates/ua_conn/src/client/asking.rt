@@ -1,6 +1,6 @@
 //! Requests that a client sends, and the reasons against a command.
 
-ghost use Rattle.std.specs.Prelude.{◌≡◌, ◌≤◌, ◌++◌, true, not, is_ok, None, Some, length, if◌then◌else◌, IfOk, OnOk, IfErr, OnErr};
+ghost use Rattle.std.specs.Prelude.{◌≡◌, ◌≤◌, ◌++◌, true, not, None, Some, length, if◌then◌else◌, IfOk, OnOk, IfErr, OnErr};
 ghost use Rattle.ua_frame.specs.Streams.{moment_of as counted};
 ghost use Rattle.ua_chunk.specs.Cut.{part_count, fill};
 ghost use Rattle.ua_chunk.specs.Half.{body_of as body_bytes};

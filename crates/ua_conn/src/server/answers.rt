@@ -8,7 +8,11 @@ use ua_service::Request;
 
 /// The answer to a request that came whole at the moment, in ticks, lent from both. OPC 10000-4, 5.5 and 7.35.
 #[tactic(auto, unfolding(crate::specs::server::Answers::answer_body))]
-pub(crate) fn answer_to<'a>(settings: &'a Settings, request: &'a Request, now: u64) -> LentAnswer<'a>
+pub(crate) fn answer_to<'a>(
+    settings: &'a Settings,
+    request: &'a Request,
+    now: u64,
+) -> LentAnswer<'a>
     requires { now < 2 ^ 63 }
     ensures { result ≡ answer_body settings.now request.now now }
 {

@@ -1,6 +1,6 @@
 //! The parts of requests, and what is said to a whole one.
 
-ghost use Rattle.std.specs.Prelude.{◌≡◌, ◌<◌, ◌≤◌, ◌^◌, ◌++◌, ◌∷◌, [], length, false, is_ok, if◌then◌else◌, IfOk, OnOk, OnErr};
+ghost use Rattle.std.specs.Prelude.{◌≡◌, ◌<◌, ◌≤◌, ◌^◌, ◌++◌, ◌∷◌, [], length, false, is_ok, if◌then◌else◌};
 ghost use Rattle.ua_frame.specs.declared.kind.Kind.TheVariants as kinds;
 ghost use Rattle.ua_chunk.specs.Half.{body_of};
 ghost use Rattle.ua_chunk.specs.Layout.{chunk_of};
@@ -155,7 +155,16 @@ impl<'a> Connection<'a> {
             token: self.channel.sending_token().unwrap(),
             request_id: chunk.request_id(),
         };
-        hand_on(&agreed, &head, self.settings, request, now, &mut self.next, asked, out)?;
+        hand_on(
+            &agreed,
+            &head,
+            self.settings,
+            request,
+            now,
+            &mut self.next,
+            asked,
+            out,
+        )?;
         Ok(())
     }
 }
