@@ -1,5 +1,7 @@
 //! A server over loopback: a client that says all first, and one that takes turns with it.
 
+ghost use Rattle.std.specs.Prelude.{◌≡◌};
+
 use crate::bytes::joined;
 use crate::links::{CALLS, Came, REPLIES, StillClock, TURNS, came_of, settings};
 use std::alloc::Global;
