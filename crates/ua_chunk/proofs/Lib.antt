@@ -1,5 +1,4 @@
+pub mod CutLemmas
 pub mod Fronts
 pub mod InOrder
-pub mod Placing
-pub mod Sending
 mod Worked

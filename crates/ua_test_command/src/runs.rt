@@ -17,6 +17,7 @@ pub struct Page {
 }
 
 impl Page {
+    /// A writer of nothing yet, with room for so many bytes, at most 4096.
     pub fn new(room: usize) -> Page {
         Page {
             bytes: [0; 4096],
@@ -25,6 +26,7 @@ impl Page {
         }
     }
 
+    /// What was written.
     pub fn text(&self) -> &[u8] {
         &self.bytes[..self.len.min(4096)]
     }

@@ -1,6 +1,6 @@
 //! The parts of requests, and what is said to a whole one.
 
-ghost use Rattle.std.specs.Prelude.{◌≡◌, ◌<◌, ◌≤◌, ◌^◌, ◌++◌, ◌∷◌, [], length, false, is_ok, if◌then◌else◌};
+ghost use Rattle.std.specs.Prelude.{◌≡◌, ◌<◌, ◌≤◌, ◌^◌, ◌++◌, ◌∷◌, [], length, List, ℕ, false, is_ok, if◌then◌else◌};
 ghost use Rattle.ua_frame.specs.declared.kind.Kind.TheVariants as kinds;
 ghost use Rattle.ua_chunk.specs.Half.{body_of};
 ghost use Rattle.ua_chunk.specs.Layout.{chunk_of};
@@ -21,7 +21,7 @@ use crate::server::connection::admission::heard;
 use crate::server::fault::Fault;
 use crate::status::BAD_RESPONSE_TOO_LARGE;
 use std::alloc::Global;
-use ua_chunk::{Added, Assembly, Chunk, Head, Sequence, chunk_count, write_abort, write_message};
+use ua_chunk::{Added, Assembly, Chunk, Head, Sequence, chunk_count, write_abort, write_measured};
 use ua_disco::Settings;
 use ua_frame::{Frame, Kind};
 use ua_service::{Request, read_request};
@@ -47,12 +47,11 @@ fn gather(alloc: Global, half: &mut Assembly, chunk: &Chunk) -> Result<Option<Re
     Ok(Some(read?))
 }
 
-/// Whether an answer is larger than the client takes. OPC 10000-6, 7.1.2.3.
-fn is_too_large<M: Emit>(agreed: &Agreed, answer: &M) -> bool
+/// Whether an answer of this length is larger than the client takes. OPC 10000-6, 7.1.2.3.
+fn is_too_large(agreed: &Agreed, len: u64) -> bool
     requires { IsBuffer agreed.now.ack.send }
-    ensures { result ≡ is_over_limits agreed.now (M.spelling answer.now) }
+    ensures { (answer : List ℕ) → len ≡ length answer → result ≡ is_over_limits agreed.now answer }
 {
-    let len = answer.emit_len();
     is_over(agreed.answer_bytes, len)
         || is_over(
             agreed.answer_parts,
@@ -73,7 +72,8 @@ fn say<M: Emit>(
     ensures said { out.new.items ≡ (if is_ok result then out.old.items ++ message_frames head.now.channel head.now.token next.old 0 (answer_parts agreed.now head.now.request_id (M.spelling answer.now)) else out.old.items) }
     ensures numbered { next.new ≡ (if is_ok result then number_after next.old (length (answer_parts agreed.now head.now.request_id (M.spelling answer.now))) else next.old) }
 {
-    if is_too_large(agreed, answer) {
+    let len = answer.emit_len();
+    if is_too_large(agreed, len) {
         return write_abort(
             head.channel,
             head.token,
@@ -83,7 +83,7 @@ fn say<M: Emit>(
             out,
         );
     }
-    write_message(answer, head, agreed.ack.send - CHUNK_HEADER, next, out)
+    write_measured(answer, len, head, agreed.ack.send - CHUNK_HEADER, next, out)
 }
 
 /// Says the answer to a request, and hands the request on. The answer is lent from the settings and the request, and
