@@ -306,6 +306,18 @@ carried_by_end channel token id k total first start number left room full out by
 
 -- ---- what a sink shows that cuts
 
+-- what is put behind the last header is shown behind the rest
+pub shown_by_end : (channel token id k total first start number left room full : ℕ) (out bytes new : List ℕ)
+    → IsCut channel token id k total first number left room full (drop start out) → new ≡ out ++ bytes
+    → shown channel token id k total first start full new ≡ shown channel token id k total first start full out ++ bytes
+shown_by_end channel token id k total first start number left room full out bytes new c e =
+    let base = take start out in
+    let front : take start new ≡ base = ap (take start) e ∙ before_start start full k out bytes c.least in
+    let behind : carried full k (drop start new) ≡ carried full k (drop start out) ++ bytes =
+    carried_by_end channel token id k total first start number left room full out bytes new (carried full k (drop start out) ++ bytes) c e refl in
+    (λ i. channel ∷ token ∷ id ∷ k ∷ total ∷ first ∷ start ∷ (front i ++ behind i))
+    ∙ ap (λ (l : List ℕ). channel ∷ token ∷ id ∷ k ∷ total ∷ first ∷ start ∷ l) (sym (append_assoc base (carried full k (drop start out)) bytes))
+
 same_behind : (start : ℕ) (p q a b : List ℕ) → length p ≡ start → length q ≡ start → p ++ a ≡ q ++ b → (p ≡ q) × (a ≡ b)
 same_behind start p q a b long long1 e =
     (sym (take_at p a start long) ∙ ap (take start) e ∙ take_at q b start long1, sym (drop_at p a start long) ∙ ap (drop start) e ∙ drop_at q b start long1)

@@ -107,10 +107,16 @@ impl Model for Cutting {
     ghost invariant = { λ c. (c.plan.part_limit ≤ 1048552) × IsCut c.plan.head.channel c.plan.head.token c.plan.head.request_id c.plan.part_limit c.plan.total c.plan.first c.at.number c.at.left c.at.room c.at.full (drop c.plan.start c.out.items) };
 }
 
-impl Sink for Cutting {
-    ghost contents = { λ c. c };
-
-    fn put(&mut self, bytes: &[u8]) -> Result<(), NoMemory> {
+impl Cutting {
+    /// Puts bytes that may begin further chunks.
+    ///
+    /// # Errors
+    ///
+    /// `NoMemory` where a growth was refused; nothing has changed then.
+    #[inline(never)]
+    fn put_in_parts(&mut self, bytes: &[u8]) -> Result<(), NoMemory>
+        ensures { self.new ≡ (if is_ok result then self.old ++ bytes.now else self.old) }
+    {
         let len = self.out.len();
         let mut at = self.at;
         match cut(&self.plan, bytes, &mut at, &mut self.out) {
@@ -123,5 +129,22 @@ impl Sink for Cutting {
                 Err(e)
             }
         }
+    }
+}
+
+impl Sink for Cutting {
+    ghost contents = { λ c. c };
+
+    // Most pieces are small, and the last chunk has room for them: their way is kept short, and in line.
+    #[inline(always)]
+    fn put(&mut self, bytes: &[u8]) -> Result<(), NoMemory> {
+        let len = bytes.len() as u64;
+        if len > self.at.room {
+            return self.put_in_parts(bytes);
+        }
+        self.out.extend_from_slice(bytes)?;
+        self.at.left -= len;
+        self.at.room -= len;
+        Ok(())
     }
 }
