@@ -31,11 +31,7 @@ pub(crate) fn is_one_of(text: &UaString, texts: &[UaString]) -> bool
 pub(crate) fn asks_for(filter: &Array<UaString>, text: &UaString) -> bool
     ensures { result ≡ is_asked filter.now text.now }
 {
-    match filter.get() {
-        None => true,
-        Some([]) => true,
-        Some(texts) => is_one_of(text, texts),
-    }
+    still_asks_for(filter, text, None)
 }
 
 /// Whether a filter asks for what has this text, given the verdict over another one, if there is one: where both are the
@@ -48,8 +44,12 @@ pub(crate) fn still_asks_for(
     requires { IfSome judged (λ j. j.1 ≡ is_asked filter.now j.0.now) }
     ensures { result ≡ is_asked filter.now text.now }
 {
-    match judged {
-        Some((other, asked)) if is_same(text, other) => asked,
-        _ => asks_for(filter, text),
+    match filter.get() {
+        None => true,
+        Some([]) => true,
+        Some(texts) => match judged {
+            Some((other, asked)) if is_same(text, other) => asked,
+            _ => is_one_of(text, texts),
+        },
     }
 }

@@ -4,7 +4,6 @@ use Rattle.std.specs.Int.{w32}
 use Rattle.ua_service.specs.declared.headers.RequestHeader.{RequestHeader}
 use Rattle.ua_service.specs.declared.headers.ResponseHeader.{ResponseHeader}
 use Rattle.ua_service.specs.declared.headers.ServiceFault.{ServiceFault}
-use Rattle.ua_value.specs.declared.date.DateTime.{DateTime}
 use Rattle.ua_value.specs.Format.{Format, IsLawful}
 use Rattle.ua_value.specs.Number.{unsigned}
 use Rattle.ua_value.specs.NumberLaws.{lawful_unsigned, wide_32}

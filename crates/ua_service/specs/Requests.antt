@@ -16,14 +16,21 @@ IsRequestBody (requests.FindServers m) b = IsBodyOf 422 find_servers_request m b
 IsRequestBody (requests.GetEndpoints m) b = IsBodyOf 428 get_endpoints_request m b
 IsRequestBody (requests.Other o) b = IsOtherBody o b
 
+-- the request of each kind whose fields are all of the bytes
+abbrev pub find_servers_of : List ℕ → Option Request
+find_servers_of bytes = only find_servers_request.grammar bytes >>= λ m. Some (requests.FindServers m)
+
+abbrev pub get_endpoints_of : List ℕ → Option Request
+get_endpoints_of bytes = only get_endpoints_request.grammar bytes >>= λ m. Some (requests.GetEndpoints m)
+
 abbrev pub other_of : NodeId → List ℕ → Option Request
 other_of id bytes = request_header.grammar.front bytes >>= λ h. Some (requests.Other (record { type_id = id; header = h.0; rest = h.1 }))
 
 -- the request that follows an id
 abbrev pub request_fields : NodeId → List ℕ → Option Request
 request_fields id bytes =
-    if is_id 422 id then (only find_servers_request.grammar bytes >>= λ m. Some (requests.FindServers m))
-    else (if is_id 428 id then (only get_endpoints_request.grammar bytes >>= λ m. Some (requests.GetEndpoints m))
+    if is_id 422 id then find_servers_of bytes
+    else (if is_id 428 id then get_endpoints_of bytes
     else other_of id bytes)
 
 -- the request of which the whole bytes are a body

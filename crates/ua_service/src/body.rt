@@ -70,10 +70,7 @@ pub trait Body: Sized + Drop {
         ensures all { ReadsAll message.IsBody input.now result }
         ensures gives { Gives (λ v. v) result (message.message_of input.now) }
     {
-        match Self::parse_body(alloc, input) {
-            Ok(message) => Ok(message),
-            Err(fault) => Err(fault),
-        }
+        Self::parse_body(alloc, input)
     }
 
     ghost laws: { IsLawfulMessage message };

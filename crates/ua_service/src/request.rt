@@ -1,8 +1,10 @@
 //! Requests.
 
-ghost use Rattle.std.specs.Prelude.{◌≡◌, ◌⊎◌, ◌↔◌, None, IfSome, IfOk};
+ghost use Rattle.std.specs.Prelude.{◌≡◌, ◌≤◌, ◌⊎◌, ◌↔◌, None, IfSome, IfOk, length};
+ghost use Rattle.ua_value.specs.Format.{Gives, input_limit};
 ghost use Rattle.ua_service.specs.Message.{id_of};
-ghost use Rattle.ua_service.specs.Requests.{request_message};
+ghost use Rattle.ua_service.specs.OtherFields.{IsOtherId};
+ghost use Rattle.ua_service.specs.Requests.{request_message, find_servers_of, get_endpoints_of, other_of};
 ghost use Rattle.ua_service.specs.RequestLaws.{lawful_request};
 
 use crate::body::{Body, id, is};
@@ -55,6 +57,39 @@ impl Request {
     }
 }
 
+// The request of each kind that the whole input has the fields of. They stand apart, and out of line, so that reading one
+// does not make room for the others.
+
+/// The request for servers.
+#[inline(never)]
+fn find_servers(alloc: Global, fields: &[u8]) -> Result<Request, ReadFault>
+    requires { length fields.now ≤ input_limit }
+    ensures { Gives (λ v. v) result (find_servers_of fields.now) }
+{
+    Ok(Request::FindServers(read_whole(alloc, fields)?))
+}
+
+/// The request for endpoints.
+#[inline(never)]
+fn get_endpoints(alloc: Global, fields: &[u8]) -> Result<Request, ReadFault>
+    requires { length fields.now ≤ input_limit }
+    ensures { Gives (λ v. v) result (get_endpoints_of fields.now) }
+{
+    Ok(Request::GetEndpoints(read_whole(alloc, fields)?))
+}
+
+/// The request of another service, under its id.
+#[inline(never)]
+fn other(alloc: Global, type_id: NodeId, fields: &[u8]) -> Result<Request, ReadFault>
+    requires id { IsOtherId type_id }
+    requires few { length fields.now ≤ input_limit }
+    ensures { Gives (λ v. v) result (other_of type_id fields.now) }
+{
+    let (header, rest) = RequestHeader::read_front(alloc, fields)?;
+    let rest = rest.to_vec(alloc)?;
+    Ok(Request::Other(OtherRequest::new(type_id, header, rest)))
+}
+
 impl Body for Request {
     ghost message = { request_message };
 
@@ -75,17 +110,16 @@ impl Body for Request {
     }
 
     #[tactic(auto, using(crate::specs::MessageLaws::unlike), unfolding(crate::specs::Requests::request_of))]
+    #[inline(never)]
     fn parse_body(alloc: Global, input: &[u8]) -> Result<Request, ReadFault> {
         let (type_id, rest) = NodeId::read_front(alloc, input)?;
         if is(&type_id, FIND_SERVERS_REQUEST) {
-            return Ok(Request::FindServers(read_whole(alloc, rest)?));
+            return find_servers(alloc, rest);
         }
         if is(&type_id, GET_ENDPOINTS_REQUEST) {
-            return Ok(Request::GetEndpoints(read_whole(alloc, rest)?));
+            return get_endpoints(alloc, rest);
         }
-        let (header, rest) = RequestHeader::read_front(alloc, rest)?;
-        let rest = rest.to_vec(alloc)?;
-        Ok(Request::Other(OtherRequest::new(type_id, header, rest)))
+        other(alloc, type_id, rest)
     }
 
     ghost laws = { lawful_request };
