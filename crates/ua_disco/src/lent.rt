@@ -41,8 +41,8 @@ impl<'a> Model for LentAnswer<'a> {
 }
 
 /// The number of bytes of the id of an encoding and of a header.
-fn head_len(id: u32, header: ResponseHeader) -> u64
-    ensures length { result ≡ length (node_id.canon (id_of id)) + length (response_header.canon header) }
+fn head_len(id: u32, header: &ResponseHeader) -> u64
+    ensures length { result ≡ length (node_id.canon (id_of id)) + length (response_header.canon header.now) }
     ensures few { result ≤ 1152921725797665156 }
 {
     NodeId::numeric(0, id).len() + header.len()
@@ -55,16 +55,14 @@ fn head_len(id: u32, header: ResponseHeader) -> u64
 /// `NoMemory` where a growth was refused; a beginning of it may have been put.
 fn put_response<P: Parts + Drop, S: Sink>(
     id: u32,
-    header: ResponseHeader,
+    header: &ResponseHeader,
     behind: P,
     sink: &mut S,
 ) -> Result<(), NoMemory>
-    ensures ok { OnOk result (S.contents sink.new ≡ S.contents sink.old ++ (node_id.canon (id_of id) ++ (response_header.canon header ++ P.spelling behind))) }
-    ensures err { OnErr result (AppendsPart (S.contents sink.old) (S.contents sink.new) (node_id.canon (id_of id) ++ (response_header.canon header ++ P.spelling behind))) }
+    ensures ok { OnOk result (S.contents sink.new ≡ S.contents sink.old ++ (node_id.canon (id_of id) ++ (response_header.canon header.now ++ P.spelling behind))) }
+    ensures err { OnErr result (AppendsPart (S.contents sink.old) (S.contents sink.new) (node_id.canon (id_of id) ++ (response_header.canon header.now ++ P.spelling behind))) }
 {
-    let put = (&NodeId::numeric(0, id), (&header, behind)).emit_parts(sink);
-    let_go(header);
-    put
+    (&NodeId::numeric(0, id), (header, behind)).emit_parts(sink)
 }
 
 /// The number of bytes of the answer to a request for servers.
@@ -73,7 +71,7 @@ fn servers_body_len(settings: &Settings, request: &FindServersRequest, now: i64)
     ensures { result ≡ length (canon_response (responses.FindServers (find_servers_answer settings.now request.now now))) }
 {
     let header = response_header(now, request.header.request_handle, 0);
-    let head = head_len(FIND_SERVERS_RESPONSE, header);
+    let head = head_len(FIND_SERVERS_RESPONSE, &header);
     match asked_server(settings, request) {
         Some(server) => head + 4 + server.len(),
         None => head + 4,
@@ -93,8 +91,8 @@ fn put_servers_body<S: Sink>(
 {
     let header = response_header(now, request.header.request_handle, 0);
     match asked_server(settings, request) {
-        Some(server) => put_response(FIND_SERVERS_RESPONSE, header, (&1_u32, server), sink),
-        None => put_response(FIND_SERVERS_RESPONSE, header, &0_u32, sink),
+        Some(server) => put_response(FIND_SERVERS_RESPONSE, &header, (&1_u32, server), sink),
+        None => put_response(FIND_SERVERS_RESPONSE, &header, &0_u32, sink),
     }
 }
 
@@ -104,7 +102,7 @@ fn endpoints_body_len(settings: &Settings, request: &GetEndpointsRequest, now: i
     ensures { result ≡ length (canon_response (responses.GetEndpoints (get_endpoints_answer settings.now request.now now))) }
 {
     let header = response_header(now, request.header.request_handle, 0);
-    head_len(GET_ENDPOINTS_RESPONSE, header) + 4 + endpoints_len(settings, request)
+    head_len(GET_ENDPOINTS_RESPONSE, &header) + 4 + endpoints_len(settings, request)
 }
 
 /// Puts the answer to a request for endpoints.
@@ -121,7 +119,7 @@ fn put_endpoints_body<S: Sink>(
     let count = endpoint_count(settings, request) as u32;
     let header = response_header(now, request.header.request_handle, 0);
     let found = FoundEndpoints { settings, request };
-    put_response(GET_ENDPOINTS_RESPONSE, header, (&count, found), sink)
+    put_response(GET_ENDPOINTS_RESPONSE, &header, (&count, found), sink)
 }
 
 /// Puts the answer to a request for a service that the server does not offer.
@@ -157,7 +155,7 @@ impl<'a> Emit for LentAnswer<'a> {
         match self.request {
             Request::FindServers(request) => servers_body_len(self.settings, request, self.now),
             Request::GetEndpoints(request) => endpoints_body_len(self.settings, request, self.now),
-            Request::Other(request) => head_len(SERVICE_FAULT, fault_header(request, self.now)),
+            Request::Other(request) => head_len(SERVICE_FAULT, &fault_header(request, self.now)),
         }
     }
 

@@ -42,9 +42,12 @@ fn gather(alloc: Global, half: &mut Assembly, chunk: &Chunk) -> Result<Option<Re
     if half.add(chunk)? != Added::Whole {
         return Ok(None);
     }
-    let read = read_request(alloc, half.body());
+    let read = match read_request(alloc, half.body()) {
+        Ok(request) => Ok(Some(request)),
+        Err(fault) => Err(Fault::from(fault)),
+    };
     half.clear();
-    Ok(Some(read?))
+    read
 }
 
 /// Whether an answer of this length is larger than the client takes. OPC 10000-6, 7.1.2.3.
@@ -60,6 +63,7 @@ fn is_too_large(agreed: &Agreed, len: u64) -> bool
 }
 
 /// Says an answer in parts, or gives it up where it is larger than the client takes. OPC 10000-6, 6.7.2 and 6.7.3.
+#[inline(never)]
 fn say<M: Emit>(
     agreed: &Agreed,
     head: &Head,
@@ -143,8 +147,10 @@ impl<'a> Connection<'a> {
         ensures site { self.new.site ≡ self.old.site }
     {
         let chunk = heard(&mut self.channel, frame, now)?;
-        let Some(request) = gather(self.alloc, &mut self.half, &chunk)? else {
-            return Ok(());
+        let request = match gather(self.alloc, &mut self.half, &chunk) {
+            Ok(Some(request)) => request,
+            Ok(None) => return Ok(()),
+            Err(fault) => return Err(fault),
         };
         let Some(agreed) = self.agreed else {
             asked.push(request)?;
