@@ -245,6 +245,14 @@ def said_by_ci(path):
     return dict(parts)
 
 
+REFUSED_BY_CI = re.compile(r"^rt: must-fail (\w+)/(\S+)\.edit: refused, as it must be(?! \(only)", re.M)
+
+
+def refused_by_ci(path):
+    """The edits of must-fail/ that `rt ci` said are refused, by crate and name; not those refused only for a name or a limit."""
+    return {*REFUSED_BY_CI.findall(read(path))}
+
+
 class Checked:
     """A check of a batch: the texts that were changed, and what was said."""
 

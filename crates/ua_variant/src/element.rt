@@ -2,6 +2,7 @@
 
 ghost use Rattle.std.specs.Prelude.{◌≡◌, ◌≤◌, length, IfOk};
 ghost use Rattle.ua_value.specs.Format.{Gives, input_limit};
+ghost use Rattle.ua_value.specs.Sequence.{made};
 ghost use Rattle.ua_variant.specs.Kinds.{plain, kind_number};
 ghost use Rattle.ua_variant.specs.Values.{kind, element_depth, deepest};
 ghost use Rattle.ua_variant.specs.Spelling.{IsSoundElement};
@@ -11,6 +12,7 @@ ghost use Rattle.ua_variant.specs.View.{kind_of, element};
 use crate::diagnostic::DiagnosticInfo;
 use crate::extension::ExtensionObject;
 use crate::kind::Kind;
+use crate::leaf::Leaf;
 use crate::variant::{DataValue, Element, Variant};
 use std::alloc::Global;
 use ua_value::{
@@ -103,6 +105,17 @@ fn flat<T: Wire>(value: &T) -> u8
     0
 }
 
+/// The value of the type at the front as an element, and what follows it.
+#[inline(always)]
+fn front_of<T: Leaf>(alloc: Global, input: &[u8]) -> Result<(Element, &[u8]), ReadFault>
+    requires { length input.now ≤ input_limit }
+    ensures gives { Gives (λ x. (element x.0, x.1.now)) result ((made T.wrap T.format.grammar).front input.now) }
+    ensures shorter { IfOk result (λ x. length x.1.now ≤ length input.now) }
+{
+    let (value, rest) = T::read_front(alloc, input)?;
+    Ok((value.into_element(), rest))
+}
+
 /// The value of a plain kind at the front, and what follows it; none of another kind. Its frame is apart from those of
 /// the recursion, so that what is 100 deep is read on little stack.
 #[inline(never)]
@@ -116,50 +129,17 @@ pub(crate) fn leaf_front(
     ensures shorter { IfOk result (λ x. length x.1.now ≤ length input.now) }
 {
     match kind {
-        Kind::Boolean => {
-            let (value, rest) = bool::read_front(alloc, input)?;
-            Ok((Element::Boolean(value), rest))
-        }
-        Kind::SByte => {
-            let (value, rest) = i8::read_front(alloc, input)?;
-            Ok((Element::SByte(value), rest))
-        }
-        Kind::Byte => {
-            let (value, rest) = u8::read_front(alloc, input)?;
-            Ok((Element::Byte(value), rest))
-        }
-        Kind::Int16 => {
-            let (value, rest) = i16::read_front(alloc, input)?;
-            Ok((Element::Int16(value), rest))
-        }
-        Kind::UInt16 => {
-            let (value, rest) = u16::read_front(alloc, input)?;
-            Ok((Element::UInt16(value), rest))
-        }
-        Kind::Int32 => {
-            let (value, rest) = i32::read_front(alloc, input)?;
-            Ok((Element::Int32(value), rest))
-        }
-        Kind::UInt32 => {
-            let (value, rest) = u32::read_front(alloc, input)?;
-            Ok((Element::UInt32(value), rest))
-        }
-        Kind::Int64 => {
-            let (value, rest) = i64::read_front(alloc, input)?;
-            Ok((Element::Int64(value), rest))
-        }
-        Kind::UInt64 => {
-            let (value, rest) = u64::read_front(alloc, input)?;
-            Ok((Element::UInt64(value), rest))
-        }
-        Kind::Float => {
-            let (value, rest) = FloatBits::read_front(alloc, input)?;
-            Ok((Element::Float(value), rest))
-        }
-        Kind::Double => {
-            let (value, rest) = DoubleBits::read_front(alloc, input)?;
-            Ok((Element::Double(value), rest))
-        }
+        Kind::Boolean => front_of::<bool>(alloc, input),
+        Kind::SByte => front_of::<i8>(alloc, input),
+        Kind::Byte => front_of::<u8>(alloc, input),
+        Kind::Int16 => front_of::<i16>(alloc, input),
+        Kind::UInt16 => front_of::<u16>(alloc, input),
+        Kind::Int32 => front_of::<i32>(alloc, input),
+        Kind::UInt32 => front_of::<u32>(alloc, input),
+        Kind::Int64 => front_of::<i64>(alloc, input),
+        Kind::UInt64 => front_of::<u64>(alloc, input),
+        Kind::Float => front_of::<FloatBits>(alloc, input),
+        Kind::Double => front_of::<DoubleBits>(alloc, input),
         _ => text_front(alloc, kind, input),
     }
 }
@@ -172,26 +152,11 @@ fn text_front(alloc: Global, kind: Kind, input: &[u8]) -> Result<(Element, &[u8]
     ensures shorter { IfOk result (λ x. length x.1.now ≤ length input.now) }
 {
     match kind {
-        Kind::String => {
-            let (value, rest) = UaString::read_front(alloc, input)?;
-            Ok((Element::String(value), rest))
-        }
-        Kind::DateTime => {
-            let (value, rest) = DateTime::read_front(alloc, input)?;
-            Ok((Element::DateTime(value), rest))
-        }
-        Kind::Guid => {
-            let (value, rest) = Guid::read_front(alloc, input)?;
-            Ok((Element::Guid(value), rest))
-        }
-        Kind::ByteString => {
-            let (value, rest) = UaBytes::read_front(alloc, input)?;
-            Ok((Element::ByteString(value), rest))
-        }
-        Kind::XmlElement => {
-            let (value, rest) = XmlElement::read_front(alloc, input)?;
-            Ok((Element::XmlElement(value), rest))
-        }
+        Kind::String => front_of::<UaString>(alloc, input),
+        Kind::DateTime => front_of::<DateTime>(alloc, input),
+        Kind::Guid => front_of::<Guid>(alloc, input),
+        Kind::ByteString => front_of::<UaBytes>(alloc, input),
+        Kind::XmlElement => front_of::<XmlElement>(alloc, input),
         _ => name_front(alloc, kind, input),
     }
 }
@@ -204,30 +169,12 @@ fn name_front(alloc: Global, kind: Kind, input: &[u8]) -> Result<(Element, &[u8]
     ensures shorter { IfOk result (λ x. length x.1.now ≤ length input.now) }
 {
     match kind {
-        Kind::NodeId => {
-            let (value, rest) = NodeId::read_front(alloc, input)?;
-            Ok((Element::NodeId(value), rest))
-        }
-        Kind::ExpandedNodeId => {
-            let (value, rest) = ExpandedNodeId::read_front(alloc, input)?;
-            Ok((Element::ExpandedNodeId(value), rest))
-        }
-        Kind::StatusCode => {
-            let (value, rest) = StatusCode::read_front(alloc, input)?;
-            Ok((Element::StatusCode(value), rest))
-        }
-        Kind::QualifiedName => {
-            let (value, rest) = QualifiedName::read_front(alloc, input)?;
-            Ok((Element::QualifiedName(value), rest))
-        }
-        Kind::LocalizedText => {
-            let (value, rest) = LocalizedText::read_front(alloc, input)?;
-            Ok((Element::LocalizedText(value), rest))
-        }
-        Kind::ExtensionObject => {
-            let (value, rest) = ExtensionObject::read_front(alloc, input)?;
-            Ok((Element::ExtensionObject(value), rest))
-        }
+        Kind::NodeId => front_of::<NodeId>(alloc, input),
+        Kind::ExpandedNodeId => front_of::<ExpandedNodeId>(alloc, input),
+        Kind::StatusCode => front_of::<StatusCode>(alloc, input),
+        Kind::QualifiedName => front_of::<QualifiedName>(alloc, input),
+        Kind::LocalizedText => front_of::<LocalizedText>(alloc, input),
+        Kind::ExtensionObject => front_of::<ExtensionObject>(alloc, input),
         _ => Err(ReadFault::Refused),
     }
 }
