@@ -8,6 +8,7 @@ mod content;
 mod conversation;
 pub mod laws;
 mod limits;
+mod lists;
 mod moment;
 mod outcome;
 mod schedule;

@@ -4,7 +4,7 @@ ghost use Rattle.std.specs.Prelude.{◌≡◌, ◌≤◌, ◌+◌, ◌++◌, len
 ghost use Rattle.ua_value.specs.Format.{AppendsPart};
 ghost use Rattle.ua_value.specs.Node.{node_id};
 ghost use Rattle.ua_service.specs.Message.{id_of};
-ghost use Rattle.ua_service.specs.Headers.{response_header};
+ghost use Rattle.ua_service.specs.Headers.{response_header, response_header_at};
 ghost use Rattle.ua_service.specs.Responses.{canon_response};
 ghost use Rattle.ua_service.specs.declared.response.Response.TheVariants as responses;
 ghost use Rattle.ua_disco.specs.Answers.{answer_of, find_servers_answer, get_endpoints_answer, unsupported};
@@ -15,7 +15,8 @@ use crate::settings::Settings;
 use std::marker::Model;
 use ua_service::encoding::{FIND_SERVERS_RESPONSE, GET_ENDPOINTS_RESPONSE, SERVICE_FAULT};
 use ua_service::{
-    FindServersRequest, GetEndpointsRequest, OtherRequest, Request, ResponseHeader, response_header,
+    FindServersRequest, GetEndpointsRequest, OtherRequest, Request, RequestHeader, ResponseHeader,
+    response_header,
 };
 use ua_value::plumbing::{Parts, let_go};
 use ua_value::{Emit, NoMemory, NodeId, Sink, Wire};
@@ -40,29 +41,61 @@ impl<'a> Model for LentAnswer<'a> {
     ghost view = { λ a. canon_response (answer_of a.settings.now a.request.now a.now) };
 }
 
-/// The number of bytes of the id of an encoding and of a header.
-fn head_len(id: u32, header: &ResponseHeader) -> u64
-    ensures length { result ≡ length (node_id.canon (id_of id)) + length (response_header.canon header.now) }
-    ensures few { result ≤ 1152921725797665156 }
-{
-    NodeId::numeric(0, id).len() + header.len()
+/// What a body begins with: the id of its encoding and the header of a response, which is made where it is measured or
+/// put, and held nowhere else.
+#[derive(Clone, Copy)]
+struct Head {
+    id: u32,
+    moment: i64,
+    handle: u32,
+    status: u32,
 }
 
-/// Puts the id of an encoding, a header and what is behind it.
-///
-/// # Errors
-///
-/// `NoMemory` where a growth was refused; a beginning of it may have been put.
-fn put_response<P: Parts + Drop, S: Sink>(
-    id: u32,
-    header: &ResponseHeader,
-    behind: P,
-    sink: &mut S,
-) -> Result<(), NoMemory>
-    ensures ok { OnOk result (S.contents sink.new ≡ S.contents sink.old ++ (node_id.canon (id_of id) ++ (response_header.canon header.now ++ P.spelling behind))) }
-    ensures err { OnErr result (AppendsPart (S.contents sink.old) (S.contents sink.new) (node_id.canon (id_of id) ++ (response_header.canon header.now ++ P.spelling behind))) }
-{
-    (&NodeId::numeric(0, id), (header, behind)).emit_parts(sink)
+impl Head {
+    /// That of an answer to a request that is served.
+    fn good(id: u32, moment: i64, request: &RequestHeader) -> Head
+        ensures id { result.id ≡ id }
+        ensures moment { result.moment ≡ moment }
+        ensures handle { result.handle ≡ request.now.request_handle }
+        ensures status { result.status ≡ 0 }
+    {
+        Head {
+            id,
+            moment,
+            handle: request.request_handle,
+            status: 0,
+        }
+    }
+
+    fn header(self) -> ResponseHeader
+        ensures { result ≡ response_header_at self.moment self.handle self.status }
+    {
+        response_header(self.moment, self.handle, self.status)
+    }
+
+    /// Its number of bytes.
+    fn len(self) -> u64
+        ensures length { result ≡ length (node_id.canon (id_of self.id)) + length (response_header.canon (response_header_at self.moment self.handle self.status)) }
+        ensures few { result ≤ 1152921725797665156 }
+    {
+        let header = self.header();
+        NodeId::numeric(0, self.id).len() + header.len()
+    }
+
+    /// Puts it and what is behind it.
+    ///
+    /// # Errors
+    ///
+    /// `NoMemory` where a growth was refused; a beginning of it may have been put.
+    fn put_before<P: Parts + Drop, S: Sink>(self, behind: P, sink: &mut S) -> Result<(), NoMemory>
+        ensures ok { OnOk result (S.contents sink.new ≡ S.contents sink.old ++ (node_id.canon (id_of self.id) ++ (response_header.canon (response_header_at self.moment self.handle self.status) ++ P.spelling behind))) }
+        ensures err { OnErr result (AppendsPart (S.contents sink.old) (S.contents sink.new) (node_id.canon (id_of self.id) ++ (response_header.canon (response_header_at self.moment self.handle self.status) ++ P.spelling behind))) }
+    {
+        let header = self.header();
+        let put = (&NodeId::numeric(0, self.id), (&header, behind)).emit_parts(sink);
+        let_go(header);
+        put
+    }
 }
 
 /// The number of bytes of the answer to a request for servers.
@@ -70,11 +103,10 @@ fn put_response<P: Parts + Drop, S: Sink>(
 fn servers_body_len(settings: &Settings, request: &FindServersRequest, now: i64) -> u64
     ensures { result ≡ length (canon_response (responses.FindServers (find_servers_answer settings.now request.now now))) }
 {
-    let header = response_header(now, request.header.request_handle, 0);
-    let head = head_len(FIND_SERVERS_RESPONSE, &header);
+    let head = Head::good(FIND_SERVERS_RESPONSE, now, &request.header);
     match asked_server(settings, request) {
-        Some(server) => head + 4 + server.len(),
-        None => head + 4,
+        Some(server) => head.len() + 4 + server.len(),
+        None => head.len() + 4,
     }
 }
 
@@ -89,10 +121,10 @@ fn put_servers_body<S: Sink>(
     ensures ok { OnOk result (S.contents sink.new ≡ S.contents sink.old ++ canon_response (responses.FindServers (find_servers_answer settings.now request.now now))) }
     ensures err { OnErr result (AppendsPart (S.contents sink.old) (S.contents sink.new) (canon_response (responses.FindServers (find_servers_answer settings.now request.now now)))) }
 {
-    let header = response_header(now, request.header.request_handle, 0);
+    let head = Head::good(FIND_SERVERS_RESPONSE, now, &request.header);
     match asked_server(settings, request) {
-        Some(server) => put_response(FIND_SERVERS_RESPONSE, &header, (&1_u32, server), sink),
-        None => put_response(FIND_SERVERS_RESPONSE, &header, &0_u32, sink),
+        Some(server) => head.put_before((&1_u32, server), sink),
+        None => head.put_before(&0_u32, sink),
     }
 }
 
@@ -101,8 +133,8 @@ fn put_servers_body<S: Sink>(
 fn endpoints_body_len(settings: &Settings, request: &GetEndpointsRequest, now: i64) -> u64
     ensures { result ≡ length (canon_response (responses.GetEndpoints (get_endpoints_answer settings.now request.now now))) }
 {
-    let header = response_header(now, request.header.request_handle, 0);
-    head_len(GET_ENDPOINTS_RESPONSE, &header) + 4 + endpoints_len(settings, request)
+    let head = Head::good(GET_ENDPOINTS_RESPONSE, now, &request.header);
+    head.len() + 4 + endpoints_len(settings, request)
 }
 
 /// Puts the answer to a request for endpoints.
@@ -117,9 +149,17 @@ fn put_endpoints_body<S: Sink>(
     ensures err { OnErr result (AppendsPart (S.contents sink.old) (S.contents sink.new) (canon_response (responses.GetEndpoints (get_endpoints_answer settings.now request.now now)))) }
 {
     let count = endpoint_count(settings, request) as u32;
-    let header = response_header(now, request.header.request_handle, 0);
-    let found = FoundEndpoints { settings, request };
-    put_response(GET_ENDPOINTS_RESPONSE, &header, (&count, found), sink)
+    let head = Head::good(GET_ENDPOINTS_RESPONSE, now, &request.header);
+    head.put_before((&count, FoundEndpoints { settings, request }), sink)
+}
+
+/// The number of bytes of the answer to a request for a service that the server does not offer.
+#[tactic(auto, unfolding(ua_service::specs::Headers::service_fault))]
+fn fault_body_len(request: &OtherRequest, now: i64) -> u64
+    ensures { result ≡ length (canon_response (responses.Fault (unsupported request.now.header now))) }
+{
+    let header = fault_header(request, now);
+    NodeId::numeric(0, SERVICE_FAULT).len() + header.len()
 }
 
 /// Puts the answer to a request for a service that the server does not offer.
@@ -147,7 +187,7 @@ pub fn lent_answer<'a>(settings: &'a Settings, request: &'a Request, now: i64) -
     }
 }
 
-#[tactic(auto, unfolding(crate::specs::Answers::answer_of, ua_service::specs::Headers::service_fault))]
+#[tactic(auto, unfolding(crate::specs::Answers::answer_of))]
 impl<'a> Emit for LentAnswer<'a> {
     ghost spelling = { λ a. a };
 
@@ -155,7 +195,7 @@ impl<'a> Emit for LentAnswer<'a> {
         match self.request {
             Request::FindServers(request) => servers_body_len(self.settings, request, self.now),
             Request::GetEndpoints(request) => endpoints_body_len(self.settings, request, self.now),
-            Request::Other(request) => head_len(SERVICE_FAULT, &fault_header(request, self.now)),
+            Request::Other(request) => fault_body_len(request, self.now),
         }
     }
 

@@ -8,6 +8,7 @@ use std::alloc::Global;
 use std::marker::Model;
 use ua_service::Request;
 use ua_value::NoMemory;
+use ua_value::plumbing::let_go;
 
 /// The requests that are pending, each under its id, in the order of asking. Contracts see the room for more beside
 /// them.
@@ -77,7 +78,8 @@ impl Pending {
         requires { 0 < self.old.room }
         ensures { waiting_under id self.old.requests ≡ None → self.new.requests ≡ self.old.requests ++ (id, request) ∷ [] }
     {
-        let _old = self.map.insert(id, request).unwrap();
+        // (there is room, so it takes the request)
+        let_go(self.map.insert(id, request));
     }
 
     /// Takes the request that is pending under this id, if there is one. The others keep their order.

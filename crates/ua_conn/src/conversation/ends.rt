@@ -11,6 +11,7 @@ ghost use Rattle.ua_conn.specs.client.Commands as commands;
 ghost use Rattle.ua_conn.specs.declared.schedule.Step.TheVariants as steps;
 
 use crate::client::{Answer, AskFault, Client, ClientFault};
+use crate::lists::push;
 use crate::outcome::End;
 use crate::schedule::Step;
 use crate::server::{FeedFault, Server};
@@ -18,6 +19,7 @@ use crate::story::{Setup, Story};
 use std::alloc::{AllocError, Global};
 use ua_service::Request;
 use ua_value::NoMemory;
+use ua_value::plumbing::let_go;
 
 /// A client, a server, and what came of them so far.
 #[derive(Drop)]
@@ -69,7 +71,10 @@ fn ask(client: &mut Client, now: i64, request: &Request, part_limit: u32) -> Res
     let copy = request.copy()?;
     match client.ask(now, copy, part_limit) {
         Ok(_) => Ok(true),
-        Err((fault, _copy)) => refusal(fault),
+        Err((fault, copy)) => {
+            let_go(copy);
+            refusal(fault)
+        }
     }
 }
 
@@ -97,9 +102,7 @@ fn close(client: &mut Client, now: i64) -> Result<bool, NoMemory>
 fn keep(request: &Request, asked: &mut Vec<Request>) -> Result<(), NoMemory>
     ensures { OnOk result (asked.new.items ≡ asked.old.items ++ request.now ∷ []) }
 {
-    let copy = request.copy()?;
-    asked.push(copy)?;
-    Ok(())
+    push(asked, request.copy()?)
 }
 
 /// Gives a piece to the server. A server that takes no more drops it.

@@ -19,6 +19,7 @@ use crate::client::connection::Connection;
 use crate::client::fault::ClientFault;
 use crate::client::pending::Pending;
 use crate::content::chunk_of;
+use crate::lists::push;
 use crate::status::BAD_UNKNOWN_RESPONSE;
 use std::alloc::Global;
 use ua_channel::ClientChannel;
@@ -27,6 +28,7 @@ use ua_frame::status::BAD_TCP_MESSAGE_TYPE_INVALID;
 use ua_frame::{Frame, Kind};
 use ua_service::{Request, Response, read_response};
 use ua_value::NoMemory;
+use ua_value::plumbing::let_go;
 
 /// Admits a MSG whose last byte came at `now`. OPC 10000-6, 6.7.2.3 and 6.7.2.4; OPC 10000-4, 5.6.2.1.
 fn heard<'a>(channel: &mut ClientChannel, frame: &Frame<'a>, now: u64) -> Result<Chunk<'a>, u32>
@@ -62,6 +64,7 @@ fn read_answer(alloc: Global, body: &[u8], request: &Request) -> Result<Response
 {
     let response = read_response(alloc, body)?;
     if !fits(request, &response) {
+        let_go(response);
         return Err(ClientFault::Broken(BAD_UNKNOWN_RESPONSE));
     }
     Ok(response)
@@ -116,14 +119,20 @@ fn answer(
     ensures left { pending.new.requests ≡ without id pending.old.requests }
     ensures given { OnOk result (answers.new.items ≡ answers.old.items ++ answer_with id (waiting_under id pending.old.requests) (Some came)) }
 {
-    if let Some(request) = pending.take(id) {
-        answers.push(Answer {
-            id,
-            request,
-            result: came,
-        })?;
+    match pending.take(id) {
+        Some(request) => {
+            let answer = Answer {
+                id,
+                request,
+                result: came,
+            };
+            push(answers, answer)
+        }
+        None => {
+            let_go(came);
+            Ok(())
+        }
     }
-    Ok(())
 }
 
 impl Connection {

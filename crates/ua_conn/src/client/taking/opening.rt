@@ -23,6 +23,7 @@ use ua_frame::status::BAD_TCP_MESSAGE_TYPE_INVALID;
 use ua_frame::{Frame, Kind};
 use ua_service::{OpenResponse, read_open_response};
 use ua_value::UaString;
+use ua_value::plumbing::let_go;
 
 /// The least status that is bad. OPC 10000-4, 7.39.1.
 const BAD: u32 = 0x8000_0000;
@@ -57,9 +58,11 @@ fn granted(alloc: Global, opening: &OpenChunk) -> Result<OpenResponse, ClientFau
     let response = read_open_response(alloc, opening.body())?;
     let status = response.header.service_result.0;
     if status >= BAD {
+        let_go(response);
         return Err(ClientFault::ServerSaid(status, UaString::null()));
     }
     if response.channel_id != opening.channel() {
+        let_go(response);
         return Err(ClientFault::Broken(BAD_TCP_SECURE_CHANNEL_UNKNOWN));
     }
     Ok(response)
@@ -89,6 +92,7 @@ impl Connection {
         admit(&mut self.channel, &self.half, self.due, &opening)?;
         let response = granted(self.alloc, &opening)?;
         keep(&mut self.channel, &opening, &response, now);
+        let_go(response);
         self.due = None;
         Ok(())
     }

@@ -117,9 +117,7 @@ fn hand_on(
     };
     match said {
         Ok(()) => {
-            let Ok(()) = asked.push(request) else {
-                unreachable!()
-            };
+            asked.push_reserved(request);
             Ok(())
         }
         Err(e) => {
