@@ -102,6 +102,14 @@ fn request_of(alloc: Global, now: i64, question: Question, url: &str) -> Result<
     })
 }
 
+/// That the channel is not open yet, or else why the question is refused.
+fn not_asked(fault: AskFault) -> Result<bool, AskFault> {
+    match fault {
+        AskFault::NotOpen => Ok(false),
+        fault => Err(fault),
+    }
+}
+
 /// Asks, where the channel is open, and says whether it was.
 fn is_asked(
     alloc: Global,
@@ -113,8 +121,10 @@ fn is_asked(
     let request = request_of(alloc, now, question, url)?;
     match client.ask(now, request, PART_LIMIT) {
         Ok(_) => Ok(true),
-        Err((AskFault::NotOpen, _)) => Ok(false),
-        Err((fault, _)) => Err(fault),
+        Err((fault, request)) => {
+            let_go(request);
+            not_asked(fault)
+        }
     }
 }
 
@@ -149,17 +159,25 @@ fn close<L: Link>(client: &mut Client, link: &mut L, now: i64)
     }
 }
 
-/// What came of the first of the answers, if there is one.
-fn outcome_of(mut answers: Vec<Answer>) -> Option<Outcome> {
+/// What an answer is to the command.
+fn of_answer(answer: Answer) -> Outcome {
     let Answer {
         id: _,
-        request: _,
+        request,
         result,
-    } = answers.pop()?;
+    } = answer;
+    let_go(request);
     match result {
-        AnswerResult::Response(response) => Some(Outcome::Answered(response)),
-        AnswerResult::Aborted(status) => Some(Outcome::Aborted(status)),
+        AnswerResult::Response(response) => Outcome::Answered(response),
+        AnswerResult::Aborted(status) => Outcome::Aborted(status),
     }
+}
+
+/// What came of the first of the answers, if there is one.
+fn outcome_of(mut answers: Vec<Answer>) -> Option<Outcome> {
+    let answer = answers.pop();
+    let_go(answers);
+    Some(of_answer(answer?))
 }
 
 /// What one turn of the client brought: what came of the question, or nothing yet.
@@ -191,6 +209,35 @@ fn turn<L: Link, C: Clock>(
 /// Talks with the server until it answers.
 fn talk<L: Link, C: Clock>(
     alloc: Global,
+    client: &mut Client,
+    link: &mut L,
+    clock: &mut C,
+    question: Question,
+    url: &str,
+) -> Result<Outcome, Stop>
+    requires { L.fault_count link.old < 2 ^ 64 - 1 }
+    ensures { IfErr result IsTalkStop }
+{
+    let mut asked = false;
+    'reads: for _ in 0..MOST_READS {
+        match turn(client, link, clock) {
+            Ok(None) => {}
+            Ok(Some(outcome)) => return Ok(outcome),
+            Err(stop) => return Err(stop),
+        }
+        if !asked {
+            match is_asked(alloc, client, clock.now(), question, url) {
+                Ok(is) => asked = is,
+                Err(fault) => return of_refusal(fault),
+            }
+        }
+    }
+    Err(Stop::Link)
+}
+
+/// Talks with the server as a new client.
+fn talk_anew<L: Link, C: Clock>(
+    alloc: Global,
     link: &mut L,
     clock: &mut C,
     question: Question,
@@ -203,21 +250,9 @@ fn talk<L: Link, C: Clock>(
     let Ok(mut client) = client_of(alloc, url) else {
         return Err(Stop::NoMemory);
     };
-    let mut asked = false;
-    'reads: for _ in 0..MOST_READS {
-        match turn(&mut client, link, clock) {
-            Ok(None) => {}
-            Ok(Some(outcome)) => return Ok(outcome),
-            Err(stop) => return Err(stop),
-        }
-        if !asked {
-            match is_asked(alloc, &mut client, clock.now(), question, url) {
-                Ok(is) => asked = is,
-                Err(fault) => return of_refusal(fault),
-            }
-        }
-    }
-    Err(Stop::Link)
+    let came = talk(alloc, &mut client, link, clock, question, url);
+    let_go(client);
+    came
 }
 
 /// The number of a reason why the question was refused.
@@ -295,7 +330,7 @@ pub fn ask_over<L: Link, C: Clock, O: Write, E: Write>(
     requires countable { L.fault_count link.old < 2 ^ 64 - 1 }
     ensures { IsAskStatus result }
 {
-    match talk(alloc, link, clock, question, url) {
+    match talk_anew(alloc, link, clock, question, url) {
         Ok(outcome) => {
             let status = status_of(alloc, &outcome, output, errors);
             let_go(outcome);
