@@ -10,7 +10,7 @@ use Rattle.ua_command.specs.Run.{Streams, IsDone, IsStop}
 use Rattle.ua_command.specs.Serve.{Serves, IsServeStop}
 use Rattle.ua_command.specs.Show.{ShowsCapture}
 use Rattle.ua_command.specs.Stop.{IsAnswerStop, IsFileStop}
-use Rattle.ua_variant.specs.declared.kind.Kind.{Kind}
+use Rattle.ua_kind.specs.declared.kind.Kind.{Kind}
 use Rattle.ua_command.specs.declared.ask.Question.{Question}
 use Rattle.ua_command.specs.declared.settings.Source.{Source}
 use Rattle.ua_command.specs.declared.show.Capture.{Capture}

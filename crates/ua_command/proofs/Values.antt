@@ -3,7 +3,7 @@ use Rattle.std.proofs.Common.{◌≡◌, ℕ, List, length, Result, Ok, Err, IfE
 use Rattle.ua_value.specs.Format.{Format, Reads}
 use Rattle.ua_command.specs.Printed.{value_lines, two_lines, shape_of, Prints}
 use Rattle.ua_value.specs.declared.fault.ReadFault.{ReadFault}
-use Rattle.ua_variant.specs.declared.kind.Kind.{Kind}
+use Rattle.ua_kind.specs.declared.kind.Kind.{Kind}
 
 pub prints_two : {V : Type 0} (f : Format V) (input text : List ℕ) (v : V) (n : ℕ) → Reads f input (Ok (v, n)) → text ≡ value_lines n (length input) (f.canon v) → Prints (two_lines f) input text
 prints_two f input text v n reads e = ((v, n), reads, e ∙ sym (append-nil (value_lines n (length input) (f.canon v))))

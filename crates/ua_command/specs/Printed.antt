@@ -24,8 +24,8 @@ use Rattle.ua_value.specs.declared.guid.Guid.{Guid}
 use Rattle.ua_value.specs.declared.node.NodeId.{NodeId}
 use Rattle.ua_value.specs.declared.node.Identifier.{Identifier}
 use Rattle.ua_value.specs.declared.node.Identifier.TheVariants as identifiers
-use Rattle.ua_variant.specs.declared.kind.Kind.{Kind}
-use Rattle.ua_variant.specs.declared.kind.Kind.TheVariants as types
+use Rattle.ua_kind.specs.declared.kind.Kind.{Kind}
+use Rattle.ua_kind.specs.declared.kind.Kind.TheVariants as types
 
 -- a lower-case hex digit
 abbrev pub hex_digit : ℕ → ℕ

@@ -2,8 +2,8 @@
 use Rattle.std.specs.Prelude.{◌≡◌, ℕ, List, [], ◌∷◌, map}
 use Rattle.std.specs.Borrow.{Bor}
 use Rattle.ua_variant.specs.KindNames.{kind_name}
-use Rattle.ua_variant.specs.declared.kind.Kind.{Kind}
-use Rattle.ua_variant.specs.declared.kind.Kind.TheVariants.{Boolean, SByte, Byte, Int16, UInt16, Int32, UInt32, Int64, UInt64, Float, Double, String, DateTime, Guid, ByteString, XmlElement, NodeId, ExpandedNodeId, StatusCode, QualifiedName, LocalizedText, ExtensionObject, DataValue, Variant, DiagnosticInfo}
+use Rattle.ua_kind.specs.declared.kind.Kind.{Kind}
+use Rattle.ua_kind.specs.declared.kind.Kind.TheVariants.{Boolean, SByte, Byte, Int16, UInt16, Int32, UInt32, Int64, UInt64, Float, Double, String, DateTime, Guid, ByteString, XmlElement, NodeId, ExpandedNodeId, StatusCode, QualifiedName, LocalizedText, ExtensionObject, DataValue, Variant, DiagnosticInfo}
 
 -- in the order of their numbers
 abbrev pub types : List Kind

@@ -1,7 +1,7 @@
 //! The names of the built-in types, as words of the command.
 
 ghost use Rattle.std.specs.Prelude.{◌≡◌, MatchOption};
-ghost use Rattle.ua_variant.specs.declared.kind.Kind.{Kind};
+ghost use Rattle.ua_kind.specs.declared.kind.Kind.{Kind};
 ghost use Rattle.ua_variant.specs.KindNames.{kind_name};
 ghost use Rattle.ua_command.specs.TypeNames.{AreTypeNames};
 

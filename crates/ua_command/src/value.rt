@@ -4,7 +4,7 @@ ghost use Rattle.std.specs.Prelude.{◌≡◌, ◌≤◌, length, IfOk, IfErr, s
 ghost use Rattle.ua_value.specs.Format.{Reads, input_limit};
 ghost use Rattle.ua_command.specs.Printed.{value_lines, shape_of, two_lines, Prints, PrintsOnto, RefusesOnto};
 ghost use Rattle.ua_command.specs.Stop.{IsFileStop, IsQuiet};
-ghost use Rattle.ua_variant.specs.declared.kind.Kind.TheVariants.{Guid as guid_type, NodeId as node_id_type};
+ghost use Rattle.ua_kind.specs.declared.kind.Kind.TheVariants.{Guid as guid_type, NodeId as node_id_type};
 
 use crate::stop::{Stop, print};
 use crate::text::Node;

@@ -2,8 +2,8 @@
 use Rattle.std.proofs.Common.{◌≡◌, [], ◌∷◌, Some, None, Err, codes, refl, pos, true, false}
 use Rattle.toml.specs.Data.{integer as whole, string, no_members, member}
 use Rattle.ua_value.specs.declared.localized.LocalizedText.{LocalizedText}
-use Rattle.ua_disco.specs.Choosing.{same_text, is_asked}
-use Rattle.ua_disco.specs.Names.{name_for}
+use Rattle.ua_choice.specs.Choosing.{same_text, is_asked}
+use Rattle.ua_choice.specs.Names.{name_for}
 use Rattle.ua_disco.specs.Faults.{missing, wrong_kind, bad_value, unknown_key}
 use Rattle.ua_disco.specs.Reading.{keys_known, integer}
 use Rattle.ua_disco.specs.Tables.{table_settings}

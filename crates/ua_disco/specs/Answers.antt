@@ -17,8 +17,8 @@ use Rattle.ua_service.specs.declared.response.Response.TheVariants as responses
 use Rattle.ua_service.specs.Headers.{response_header_at}
 use Rattle.ua_disco.specs.declared.application.Application.{Application}
 use Rattle.ua_disco.specs.declared.endpoint.Endpoint.{Endpoint}
-use Rattle.ua_disco.specs.Choosing.{is_asked}
-use Rattle.ua_disco.specs.Names.{name_for}
+use Rattle.ua_choice.specs.Choosing.{is_asked}
+use Rattle.ua_choice.specs.Names.{name_for}
 use Rattle.ua_disco.specs.Configuration.{Configuration}
 
 -- an application under one of its names

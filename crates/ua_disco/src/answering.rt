@@ -5,9 +5,9 @@ ghost use Rattle.ua_disco.specs.Bounds.{IsConfiguration};
 ghost use Rattle.ua_disco.specs.Answers.{answer_of, servers_found, endpoints_found, find_servers_answer, get_endpoints_answer, unsupported};
 
 use crate::arrays::array_of;
-use crate::choosing::{asks_for, still_asks_for};
 use crate::settings::Settings;
 use std::alloc::Global;
+use ua_choice::{asks_for, still_asks_for};
 use ua_service::{
     ApplicationDescription, EndpointDescription, FindServersRequest, FindServersResponse,
     GetEndpointsRequest, GetEndpointsResponse, OtherRequest, Request, Response, ResponseHeader,

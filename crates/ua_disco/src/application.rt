@@ -5,7 +5,7 @@ ghost use Rattle.ua_value.specs.Format.{AppendsPart};
 ghost use Rattle.ua_service.specs.Application.{application_description};
 ghost use Rattle.ua_disco.specs.Answers.{described};
 
-use crate::names::Names;
+use ua_choice::Names;
 use ua_service::ApplicationDescription;
 use ua_value::plumbing::{Parts, copy_three};
 use ua_value::{Array, LocalizedText, NoMemory, Sink, UaString, Wire};

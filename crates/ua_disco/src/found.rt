@@ -7,8 +7,8 @@ ghost use Rattle.ua_service.specs.Endpoint.{endpoint_description};
 ghost use Rattle.ua_disco.specs.Answers.{described, servers_found, endpoints_found};
 
 use crate::application::NamedApplication;
-use crate::choosing::{asks_for, still_asks_for};
 use crate::settings::Settings;
+use ua_choice::{asks_for, still_asks_for};
 use ua_service::{FindServersRequest, GetEndpointsRequest};
 use ua_value::plumbing::Parts;
 use ua_value::{NoMemory, Sink};

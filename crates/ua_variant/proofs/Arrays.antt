@@ -5,7 +5,7 @@ use Rattle.std.proofs.lemmas.List.Concat.{flat_map-cons}
 use Rattle.ua_value.specs.Format.{AppendsPart}
 use Rattle.ua_value.specs.Text as text
 use Rattle.std.specs.Global.{Vec}
-use Rattle.ua_variant.specs.declared.kind.Kind as code_kind
+use Rattle.ua_kind.specs.declared.kind.Kind as code_kind
 use Rattle.ua_variant.specs.declared.variant.Element as code
 use Rattle.ua_variant.specs.declared.variant.Body.{Body}
 use Rattle.ua_variant.specs.declared.variant.Body.TheVariants as bodies

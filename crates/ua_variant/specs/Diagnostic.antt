@@ -5,6 +5,7 @@ use Rattle.ua_value.specs.Sequence.{both, made, never, either, headed}
 use Rattle.ua_value.specs.Localized.{has, flag}
 use Rattle.ua_variant.specs.declared.diagnostic_parts.DiagnosticParts.{DiagnosticParts}
 use Rattle.ua_variant.specs.DiagnosticParts.{diagnostic_parts}
+pub use Rattle.ua_kind.specs.Nesting.{deepest}
 
 -- parts alone, or parts round another one
 pub data Diagnostic : Type 0 where
@@ -15,10 +16,6 @@ pub data Diagnostic : Type 0 where
 abbrev pub depth : Diagnostic → ℕ
 depth (plain p) = 1
 depth (around p inner) = suc (depth inner)
-
--- none is deeper
-abbrev pub deepest : ℕ
-deepest = 100
 
 abbrev pub parts_of : Diagnostic → DiagnosticParts
 parts_of (plain p) = p

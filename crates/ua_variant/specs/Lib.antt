@@ -9,7 +9,7 @@ pub mod DiagnosticView
 pub mod Extension
 pub mod ExtensionLaws
 pub mod Kinds
-pub mod KindNames
+pub use Rattle.ua_kind.specs.KindNames
 pub mod Values
 pub mod Picoseconds
 pub mod Stamps

@@ -3,7 +3,7 @@ use Rattle.std.specs.Prelude.{◌≡◌, ℕ, suc, ℤ, pos, negsuc, ◌*◌, �
 use Rattle.ua_variant.specs.declared.stamps.Stamps.{Stamps}
 use Rattle.ua_variant.specs.Kinds.{Plain, Kind, plain, variant_kind, data_kind, info_kind, Payload}
 use Rattle.ua_variant.specs.Diagnostic as diagnostics
-pub use Rattle.ua_variant.specs.Diagnostic.{deepest}
+pub use Rattle.ua_kind.specs.Nesting.{deepest, is_variant}
 
 mutual
   pub data Variant : Type 0 where
@@ -67,12 +67,6 @@ AllOf k (item e es) = (kind e ≡ k) × AllOf k es
 abbrev pub items_of : List Element → Items
 items_of [] = no_items
 items_of (e ∷ es) = item e (items_of es)
-
-abbrev pub is_variant : Kind → Bool
-is_variant (plain p) = false
-is_variant variant_kind = true
-is_variant data_kind = false
-is_variant info_kind = false
 
 -- an array, or null, with dimensions or without
 abbrev pub array_with : Kind → Option (List Element) → Option (List ℤ) → Variant

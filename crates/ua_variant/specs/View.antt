@@ -2,8 +2,8 @@
 use Rattle.std.specs.Prelude.{◌≡◌, List, Option, Some, None, option_map, map}
 use Rattle.std.specs.Global.{Vec, Box}
 use Rattle.ua_variant.specs.declared.stamps.Stamps.{Stamps}
-use Rattle.ua_variant.specs.declared.kind.Kind.{Kind}
-use Rattle.ua_variant.specs.declared.kind.Kind.TheVariants as kinds
+use Rattle.ua_kind.specs.declared.kind.Kind.{Kind}
+pub use Rattle.ua_kind.specs.KindView.{kind_of}
 use Rattle.ua_variant.specs.declared.variant.Element.{Element}
 use Rattle.ua_variant.specs.declared.variant.Element.TheVariants as elements
 use Rattle.ua_variant.specs.declared.variant.Body.{Body}
@@ -15,33 +15,6 @@ use Rattle.ua_variant.specs.Kinds.{plain}
 use Rattle.ua_variant.specs.Values as spec
 use Rattle.ua_variant.specs.Values.{leaf}
 use Rattle.ua_variant.specs.Spelling.{IsVariant, IsDataValue}
-
-abbrev pub kind_of : Kind → spec_kinds.Kind
-kind_of kinds.Boolean = plain spec_kinds.boolean
-kind_of kinds.SByte = plain spec_kinds.sbyte
-kind_of kinds.Byte = plain spec_kinds.byte
-kind_of kinds.Int16 = plain spec_kinds.int16
-kind_of kinds.UInt16 = plain spec_kinds.uint16
-kind_of kinds.Int32 = plain spec_kinds.int32
-kind_of kinds.UInt32 = plain spec_kinds.uint32
-kind_of kinds.Int64 = plain spec_kinds.int64
-kind_of kinds.UInt64 = plain spec_kinds.uint64
-kind_of kinds.Float = plain spec_kinds.float
-kind_of kinds.Double = plain spec_kinds.double
-kind_of kinds.String = plain spec_kinds.string
-kind_of kinds.DateTime = plain spec_kinds.date_time
-kind_of kinds.Guid = plain spec_kinds.guid
-kind_of kinds.ByteString = plain spec_kinds.byte_string
-kind_of kinds.XmlElement = plain spec_kinds.xml_element
-kind_of kinds.NodeId = plain spec_kinds.node_id
-kind_of kinds.ExpandedNodeId = plain spec_kinds.expanded_node_id
-kind_of kinds.StatusCode = plain spec_kinds.status_code
-kind_of kinds.QualifiedName = plain spec_kinds.qualified_name
-kind_of kinds.LocalizedText = plain spec_kinds.localized_text
-kind_of kinds.ExtensionObject = plain spec_kinds.extension_object
-kind_of kinds.DataValue = spec_kinds.data_kind
-kind_of kinds.Variant = spec_kinds.variant_kind
-kind_of kinds.DiagnosticInfo = spec_kinds.info_kind
 
 abbrev pub element : Element → spec.Element
 element (elements.Boolean v) = leaf spec_kinds.boolean v

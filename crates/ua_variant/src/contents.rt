@@ -5,8 +5,8 @@ ghost use Rattle.ua_variant.specs.Values.{depth, items_of, deepest};
 ghost use Rattle.ua_variant.specs.Making.{is_null, is_array, kind_in, one_in, elements_in, dimensions_in};
 ghost use Rattle.ua_variant.specs.View.{kind_of, element, items_in};
 
-use crate::kind::Kind;
 use crate::variant::{Body, Element, Variant};
+use ua_kind::Kind;
 
 impl Variant {
     /// There is no value, not even a null array.

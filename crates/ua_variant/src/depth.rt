@@ -8,10 +8,6 @@ ghost use Rattle.ua_variant.specs.View.{element, items_in, body_of, data_with};
 use crate::stamps::Stamps;
 use crate::variant::{Body, DataValue, Element, Variant};
 
-/// How deep Variants, DataValues and DiagnosticInfos may be nested in one another (OPC 10000-6, 5.2.2.12 and 5.2.2.16
-/// have a reader take at least so many).
-pub const DEEPEST: u8 = 100;
-
 /// The greatest depth of the elements.
 fn levels_of(items: &[Element]) -> u8
     ensures depth { result ≡ items_depth (items_of (map element items.now)) }

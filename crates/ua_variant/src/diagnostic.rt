@@ -6,11 +6,11 @@ ghost use Rattle.ua_variant.specs.DiagnosticParts.{of_row};
 ghost use Rattle.ua_variant.specs.Diagnostic.{plain, around, depth, deepest, parts_of, inner_of, diagnostic_of, canon, within, diagnostic, IsDiagnostic, IsFull};
 ghost use Rattle.ua_variant.specs.DiagnosticLaws.{lawful_diagnostic};
 
-use crate::depth::DEEPEST;
 use crate::diagnostic_parts::DiagnosticParts;
 use crate::fault::VariantFault;
 use std::alloc::Global;
 use std::marker::Model;
+use ua_kind::{DEEPEST, allowance};
 use ua_value::{NoMemory, ReadFault, Sink, StatusCode, UaString, Wire};
 
 /// Vendor-specific diagnostics of an error, and maybe those of the error below it
@@ -189,7 +189,7 @@ impl Wire for DiagnosticInfo {
     }
 
     fn read_front(alloc: Global, input: &[u8]) -> Result<(DiagnosticInfo, &[u8]), ReadFault> {
-        DiagnosticInfo::read_within(alloc, input, DEEPEST)
+        DiagnosticInfo::read_within(alloc, input, allowance())
     }
 
     ghost laws = { lawful_diagnostic };

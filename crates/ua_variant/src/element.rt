@@ -11,10 +11,10 @@ ghost use Rattle.ua_variant.specs.View.{kind_of, element};
 
 use crate::diagnostic::DiagnosticInfo;
 use crate::extension::ExtensionObject;
-use crate::kind::Kind;
 use crate::leaf::Leaf;
 use crate::variant::{DataValue, Element, Variant};
 use std::alloc::Global;
+use ua_kind::Kind;
 use ua_value::{
     DateTime, DoubleBits, ExpandedNodeId, FloatBits, Guid, LocalizedText, NodeId, QualifiedName,
     ReadFault, StatusCode, UaBytes, UaString, Wire, XmlElement,

@@ -9,10 +9,10 @@ ghost use Rattle.ua_variant.specs.Reading.{leaves};
 ghost use Rattle.ua_variant.specs.View.{kind_of, element};
 
 use crate::extension::ExtensionObject;
-use crate::kind::Kind;
 use crate::leaf::Leaf;
 use crate::variant::Element;
 use std::alloc::Global;
+use ua_kind::Kind;
 use ua_value::{
     DateTime, DoubleBits, ExpandedNodeId, FloatBits, Guid, LocalizedText, NodeId, QualifiedName,
     ReadFault, StatusCode, UaBytes, UaString, XmlElement,

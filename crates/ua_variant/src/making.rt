@@ -10,15 +10,15 @@ ghost use Rattle.ua_variant.specs.Picoseconds.{most_picoseconds};
 ghost use Rattle.ua_variant.specs.Stamps.{of_row};
 ghost use Rattle.ua_variant.specs.View.{kind_of, element, items_in};
 
-use crate::depth::{DEEPEST, levels_in};
+use crate::depth::levels_in;
 use crate::fault::VariantFault;
-use crate::kind::Kind;
 use crate::picoseconds::Picoseconds;
 use crate::reading::count_in;
 use crate::shape::is_shape_of;
 use crate::stamps::Stamps;
 use crate::variant::{Body, DataValue, Element, Variant};
 use std::alloc::Global;
+use ua_kind::{DEEPEST, Kind};
 use ua_value::plumbing::let_go;
 use ua_value::{Array, DateTime, StatusCode, Wire};
 
@@ -93,7 +93,7 @@ impl Variant {
         ensures made { IfOk result (λ v. v ≡ one (element value)) }
         ensures refused { fault_of result ≡ scalar_fault (element value) }
     {
-        if matches!(value.kind(), Kind::Variant) {
+        if value.kind().is_variant() {
             let_go(value);
             return Err(VariantFault::SingleVariant);
         }

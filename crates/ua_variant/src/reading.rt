@@ -13,12 +13,12 @@ ghost use Rattle.ua_variant.specs.View.{kind_of, element, items_in, body_of, dat
 
 use crate::diagnostic::DiagnosticInfo;
 use crate::element::leaf_front;
-use crate::kind::Kind;
 use crate::leaves::each_leaf;
 use crate::shape::shape_front;
 use crate::stamps::Stamps;
 use crate::variant::{Body, DataValue, Element, Variant};
 use std::alloc::Global;
+use ua_kind::Kind;
 use ua_value::ReadFault;
 use ua_value::plumbing::{LONGEST, front_u32};
 
@@ -88,7 +88,7 @@ fn single_within(
     ensures gives { Gives (λ x. (body_of x.0, x.1.now)) result ((singles (elements_within allowance) (kind_of kind)).front input.now) }
     ensures shorter { IfOk result (λ x. length x.1.now ≤ length input.now) }
 {
-    if matches!(kind, Kind::Variant) {
+    if kind.is_variant() {
         return Err(ReadFault::Refused);
     }
     let (one, rest) = element_within(alloc, kind, input, allowance)?;

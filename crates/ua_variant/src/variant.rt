@@ -2,9 +2,9 @@
 
 use crate::diagnostic::DiagnosticInfo;
 use crate::extension::ExtensionObject;
-use crate::kind::Kind;
 use crate::stamps::Stamps;
 use std::marker::Model;
+use ua_kind::Kind;
 use ua_value::{
     Array, DateTime, DoubleBits, ExpandedNodeId, FloatBits, Guid, LocalizedText, NodeId,
     QualifiedName, StatusCode, UaBytes, UaString, XmlElement,

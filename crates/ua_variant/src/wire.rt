@@ -6,11 +6,11 @@ ghost use Rattle.ua_variant.specs.Formats.{variant_format, lawful_variant, data_
 ghost use Rattle.ua_variant.specs.Reading.{VariantCountsMore, DataCountsMore};
 
 use crate::copying::{copy_data, copy_variant};
-use crate::depth::DEEPEST;
 use crate::reading::{data_within, variant_within};
 use crate::variant::{DataValue, Variant};
 use crate::writing::{data_len, emit_data, emit_variant, variant_len};
 use std::alloc::Global;
+use ua_kind::allowance;
 use ua_value::{NoMemory, ReadFault, Sink, Wire};
 
 #[tactic(auto, unfolding(crate::specs::Formats::variant_format))]
@@ -41,7 +41,7 @@ impl Wire for Variant {
         ensures memory { IfErr result (λ e. e ≡ ReadFault.NoMemory → Unit {0}) }
         ensures counted { VariantCountsMore input.now → result ≡ Err ReadFault.Refused }
     {
-        variant_within(alloc, input, DEEPEST)
+        variant_within(alloc, input, allowance())
     }
 
     fn read(alloc: Global, input: &[u8]) -> Result<(Variant, usize), ReadFault>
@@ -87,7 +87,7 @@ impl Wire for DataValue {
         ensures memory { IfErr result (λ e. e ≡ ReadFault.NoMemory → Unit {0}) }
         ensures counted { DataCountsMore input.now → result ≡ Err ReadFault.Refused }
     {
-        data_within(alloc, input, DEEPEST)
+        data_within(alloc, input, allowance())
     }
 
     fn read(alloc: Global, input: &[u8]) -> Result<(DataValue, usize), ReadFault>

@@ -8,8 +8,8 @@ ghost use Rattle.ua_variant.specs.Lists.{canon_of_items, canon_of_list, IsShortL
 ghost use Rattle.ua_variant.specs.View.{kind_of, element, items_in};
 
 use crate::flagged::bit;
-use crate::kind::Kind;
 use crate::variant::{Body, DataValue, Element, Variant};
+use ua_kind::Kind;
 use ua_value::{Array, NoMemory, Sink, Wire};
 
 /// The first byte of a Variant.

@@ -1,7 +1,7 @@
 use Rattle.std.proofs.Common.{◌≡◌, take, map}
 use Rattle.std.specs.Prelude.{IfSome}
 use Rattle.std.specs.List.{filter}
-use Rattle.ua_disco.specs.Choosing.{is_asked}
+use Rattle.ua_choice.specs.Choosing.{is_asked}
 use Rattle.ua_disco.specs.Answers.{described_endpoint}
 use Rattle.ua_disco.proofs.answering.endpoints.Given as goal
 

@@ -1,7 +1,7 @@
 use Rattle.std.proofs.Common.{◌≡◌, ◌≤◌, length, take}
 use Rattle.std.specs.Prelude.{IfSome}
 use Rattle.std.specs.List.{filter}
-use Rattle.ua_disco.specs.Choosing.{is_asked}
+use Rattle.ua_choice.specs.Choosing.{is_asked}
 use Rattle.ua_disco.proofs.found.endpoint_count.Given as goal
 
 abbrev pub invariant-loop-endpoint : goal.invariant-loop-endpoint

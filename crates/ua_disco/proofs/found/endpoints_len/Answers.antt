@@ -3,7 +3,7 @@ use Rattle.std.specs.List.{flat_map, filter}
 use Rattle.std.proofs.lemmas.List.{take_all}
 use Rattle.ua_service.specs.Endpoint.{endpoint_description}
 use Rattle.ua_disco.specs.declared.endpoint.Endpoint.{Endpoint}
-use Rattle.ua_disco.specs.Choosing.{is_asked}
+use Rattle.ua_choice.specs.Choosing.{is_asked}
 use Rattle.ua_disco.specs.Answers.{described_endpoint, endpoints_found}
 use Rattle.ua_disco.specs.Sizes.{endpoints_size}
 use Rattle.ua_disco.proofs.Pieces.{beginning_size}

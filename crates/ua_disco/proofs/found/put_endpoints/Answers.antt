@@ -5,7 +5,7 @@ use Rattle.std.proofs.lemmas.Result.{err_from_is_err_and}
 use Rattle.ua_value.specs.Format.{AppendsPart}
 use Rattle.ua_service.specs.Endpoint.{endpoint_description}
 use Rattle.ua_disco.specs.declared.endpoint.Endpoint.{Endpoint}
-use Rattle.ua_disco.specs.Choosing.{is_asked}
+use Rattle.ua_choice.specs.Choosing.{is_asked}
 use Rattle.ua_disco.specs.Answers.{described_endpoint, endpoints_found}
 use Rattle.ua_disco.proofs.Pieces.{part_of_found}
 use Rattle.ua_disco.proofs.found.put_endpoints.Goals as goal

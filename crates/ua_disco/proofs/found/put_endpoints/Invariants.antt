@@ -2,7 +2,7 @@ use Rattle.std.proofs.Common.{◌≡◌, ◌++◌, map, take}
 use Rattle.std.specs.Prelude.{IfSome}
 use Rattle.std.specs.List.{flat_map, filter}
 use Rattle.ua_service.specs.Endpoint.{endpoint_description}
-use Rattle.ua_disco.specs.Choosing.{is_asked}
+use Rattle.ua_choice.specs.Choosing.{is_asked}
 use Rattle.ua_disco.specs.Answers.{described_endpoint}
 use Rattle.ua_disco.proofs.found.put_endpoints.Given as goal
 

@@ -1,7 +1,7 @@
 -- The names of the built-in types.
 use Rattle.std.specs.Prelude.{ℕ, List, codes}
-use Rattle.ua_variant.specs.declared.kind.Kind.{Kind}
-use Rattle.ua_variant.specs.declared.kind.Kind.TheVariants as kinds
+use Rattle.ua_kind.specs.declared.kind.Kind.{Kind}
+use Rattle.ua_kind.specs.declared.kind.Kind.TheVariants as kinds
 
 abbrev pub kind_name : Kind → List ℕ
 kind_name kinds.Boolean = codes "Boolean"

@@ -2,7 +2,7 @@
 use Rattle.std.specs.Prelude.{ℕ, List, [], ◌∷◌, Option, Some, None, unwrap_or}
 use Rattle.std.specs.List.{find}
 use Rattle.ua_value.specs.declared.localized.LocalizedText.{LocalizedText}
-use Rattle.ua_disco.specs.Choosing.{same_text}
+use Rattle.ua_choice.specs.Choosing.{same_text}
 
 -- the first name in that locale
 abbrev pub in_locale : Option (List ℕ) → List LocalizedText → Option LocalizedText

@@ -1,9 +1,10 @@
 //! The kinds of built-in values.
 
 ghost use Rattle.std.specs.Prelude.{◌≡◌, ◌≤◌, ◌↔◌, IsTrue, option_map};
-ghost use Rattle.ua_variant.specs.Kinds.{kind_number, kind_named};
-ghost use Rattle.ua_variant.specs.KindNames.{kind_name};
-ghost use Rattle.ua_variant.specs.View.{kind_of};
+ghost use Rattle.ua_kind.specs.Kinds.{kind_number, kind_named};
+ghost use Rattle.ua_kind.specs.KindNames.{kind_name};
+ghost use Rattle.ua_kind.specs.KindView.{kind_of};
+ghost use Rattle.ua_kind.specs.Nesting.{is_variant};
 
 /// The built-in types (OPC 10000-6, 5.1.2). `kind as u8` is the number of each.
 #[derive(Clone, Copy, Debug, PartialEq, Eq)]
@@ -103,10 +104,17 @@ impl Kind {
     }
 
     /// The values of the kind hold no Variant, DataValue or DiagnosticInfo.
-    pub(crate) fn is_plain(self) -> bool
+    pub fn is_plain(self) -> bool
         ensures { IsTrue result ↔ (kind_number (kind_of self) ≤ 22) }
     {
         !matches!(self, Kind::DataValue | Kind::Variant | Kind::DiagnosticInfo)
+    }
+
+    /// A Variant holds no single value of the kind, but arrays of it: only of Variants (OPC 10000-6, 5.2.2.16).
+    pub fn is_variant(self) -> bool
+        ensures { result ≡ is_variant (kind_of self) }
+    {
+        matches!(self, Kind::Variant)
     }
 
     /// The kind that a Variant's first byte names in its bits 0 to 5 (OPC 10000-6, 5.2.2.16): 26 to

@@ -1,7 +1,7 @@
 //! What the lists of a request ask for (OPC 10000-4, 5.5.2 and 5.5.4).
 
 ghost use Rattle.std.specs.Prelude.{◌≡◌, IfSome};
-ghost use Rattle.ua_disco.specs.Choosing.{same_text, is_among, is_asked};
+ghost use Rattle.ua_choice.specs.Choosing.{same_text, is_among, is_asked};
 
 use ua_value::{Array, UaString};
 
@@ -16,7 +16,7 @@ pub(crate) fn is_same(a: &UaString, b: &UaString) -> bool
     }
 }
 
-pub(crate) fn is_one_of(text: &UaString, texts: &[UaString]) -> bool
+fn is_one_of(text: &UaString, texts: &[UaString]) -> bool
     ensures { result ≡ is_among text.now texts.now }
 {
     for other in texts {
@@ -28,7 +28,7 @@ pub(crate) fn is_one_of(text: &UaString, texts: &[UaString]) -> bool
 }
 
 /// Whether a filter asks for what has this text: an absent or empty filter asks for all.
-pub(crate) fn asks_for(filter: &Array<UaString>, text: &UaString) -> bool
+pub fn asks_for(filter: &Array<UaString>, text: &UaString) -> bool
     ensures { result ≡ is_asked filter.now text.now }
 {
     still_asks_for(filter, text, None)
@@ -36,7 +36,7 @@ pub(crate) fn asks_for(filter: &Array<UaString>, text: &UaString) -> bool
 
 /// Whether a filter asks for what has this text, given the verdict over another one, if there is one: where both are the
 /// same, the filter is not searched again. So a run of equal texts costs one search, however long the filter is.
-pub(crate) fn still_asks_for(
+pub fn still_asks_for(
     filter: &Array<UaString>,
     text: &UaString,
     judged: Option<(&UaString, bool)>,

@@ -1,0 +1,9 @@
+//! What a request of discovery asks for: what its filters let through, and the name in the language that is wanted most
+//! (OPC 10000-4, 5.5).
+#![tactic(auto)]
+
+mod choosing;
+mod names;
+
+pub use choosing::{asks_for, still_asks_for};
+pub use names::Names;

@@ -1,0 +1,4 @@
+pub mod Kinds
+pub mod KindNames
+pub mod KindView
+pub mod Nesting
