@@ -12,6 +12,7 @@ use crate::schedule::Step;
 use crate::story::{Setup, Story};
 use std::alloc::Global;
 use ua_value::NoMemory;
+use ua_value::plumbing::let_go;
 
 /// Runs a client and a server against each other, step by step. Every byte that the one writes comes to the other, in
 /// order, in the pieces that the schedule says; bytes for an end that takes no more are dropped, and a command that the
@@ -35,8 +36,11 @@ pub fn converse(alloc: Global, setup: &Setup, schedule: &[Step]) -> Result<Story
     ensures client_fault { IfOk result (λ story. story.client_fault ≡ (told_of setup.now schedule.now).client_fault) }
 {
     let mut ends = Ends::begin(alloc, setup)?;
-    'steps: for step in schedule {
-        ends.step(step)?;
+    match ends.run(schedule) {
+        Ok(()) => Ok(ends.into_story()),
+        Err(e) => {
+            let_go(ends);
+            Err(e)
+        }
     }
-    Ok(ends.story)
 }

@@ -20,18 +20,17 @@ use Rattle.ua_conn.specs.declared.schedule.Step.{Step}
 use Rattle.ua_conn.specs.declared.outcome.End.{End}
 use Rattle.ua_conn.specs.declared.client.fault.ClientFault.{ClientFault}
 
-pub begins_between : (s : Setup) (r : Run) (client : ClientShown) → 1 ≤ s.asker.first_sequence → r.clock ≡ s.start →
-    client ≡ record { config = s.asker.config; held = client_held s.asker []; output = client_bytes s.asker [] []; failed = false } → r.client ≡ record client { output = [] } →
-    r.server ≡ record { site = s.site; held = held s.site []; failed = false } → r.up ≡ client.output →
+pub begins_between : (s : Setup) (r : Run) → 1 ≤ s.asker.first_sequence → r.clock ≡ s.start →
+    r.client ≡ record { config = s.asker.config; held = client_held s.asker []; output = []; failed = false } →
+    r.server ≡ record { site = s.site; held = held s.site []; failed = false } → r.up ≡ client_bytes s.asker [] [] →
     r.up_to ≡ 0 → r.down_to ≡ 0 → r.asked ≡ [] → r.handed ≡ [] → r.answers ≡ [] → r.down ≡ [] → r.server_end ≡ None → r.client_fault ≡ None → Between s (begun s) r
 unfolding cuts_within rest_within fault_in_rest client_fault_in_rest
-begins_between s r client first clock shown emptied serves up up_to down_to asked_none handed_none answers_none down end fault =
-    let now : r.client ≡ record { config = s.asker.config; held = client_held s.asker []; output = []; failed = false } = emptied ∙ ap (λ (k : ClientShown). record k { output = [] }) shown in
+begins_between s r first clock shown serves up up_to down_to asked_none handed_none answers_none down end fault =
     record {
       clock = clock;
       client = Lives [] (record {
-        lived = record { config = sym (ap (λ (k : ClientShown). k.config) now); first = first; accepted = tt; fine = refl; held_is = sym (ap (λ (k : ClientShown). k.held) now) };
-        alive = ap (λ (k : ClientShown). k.failed) now;
+        lived = record { config = sym (ap (λ (k : ClientShown). k.config) shown); first = first; accepted = tt; fine = refl; held_is = sym (ap (λ (k : ClientShown). k.held) shown) };
+        alive = ap (λ (k : ClientShown). k.failed) shown;
         commands = refl;
         stream = refl;
         settled_is = refl;
@@ -41,9 +40,9 @@ begins_between s r client first clock shown emptied serves up up_to down_to aske
       asked_are = asked_none;
       handed_are = handed_none;
       answers_are = answers_none;
-      up_is = up ∙ ap (λ (k : ClientShown). k.output) shown;
+      up_is = up;
       down_is = down;
-      all_sent = ap (λ (k : ClientShown). k.output) now;
+      all_sent = ap (λ (k : ClientShown). k.output) shown;
       up_to = up_to;
       up_within = omega (arith, up_to);
       down_to = down_to;
@@ -55,10 +54,13 @@ run_more s w [] fs = refl
 run_more s w (e ∷ es) fs = run_more s (happens s w e) es fs
 
 -- the first steps and one more
-pub one_step : (s : Setup) (schedule : List Step) (i : ℕ) (d : Step) (r r' : Run) → i < length schedule → Between s (run s (begun s) (take i schedule)) r →
-    ((w : World) → Between s w r → Between s (happens s w (get_or schedule i d)) r') → Between s (run s (begun s) (take (i + 1) schedule)) r'
-one_step s schedule i d r r' l b step =
-    subst (λ (w : World). Between s w r') (sym (ap (run s (begun s)) (take_more schedule i d l) ∙ run_more s (begun s) (take i schedule) (get_or schedule i d ∷ []))) (step (run s (begun s) (take i schedule)) b)
+pub one_step : (s : Setup) (w : World) (schedule : List Step) (i : ℕ) (d : Step) (r r' : Run) → i < length schedule → Between s (run s w (take i schedule)) r →
+    ((w : World) → Between s w r → Between s (happens s w (get_or schedule i d)) r') → Between s (run s w (take (i + 1) schedule)) r'
+one_step s w schedule i d r r' l b step =
+    subst (λ (w : World). Between s w r') (sym (ap (run s w) (take_more schedule i d l) ∙ run_more s w (take i schedule) (get_or schedule i d ∷ []))) (step (run s w (take i schedule)) b)
+
+pub all_steps : (s : Setup) (w : World) (schedule : List Step) (i : ℕ) (r : Run) → length schedule ≤ i → Between s (run s w (take i schedule)) r → Between s (run s w schedule) r
+all_steps s w schedule i r l b = subst (λ (es : List Step). Between s (run s w es) r) (take_all i schedule l) b
 
 -- what came of each end
 server_end_is : (site : Site) (clock : ℕ) (up : List TimedByte) (server : Shown) (end : Option End) → ServerAt site clock up server end → end ≡ stop (end_of site up)
@@ -73,10 +75,8 @@ abbrev pub told_in : Run → Story
 told_in r = record { asked = r.asked; handed = r.handed; answers = r.answers; up = r.up; down = r.down; server_end = r.server_end; client_fault = r.client_fault }
 
 -- the whole story
-pub story_is : (s : Setup) (schedule : List Step) (i : ℕ) (r : Run) → length schedule ≤ i → Between s (run s (begun s) (take i schedule)) r →
-    told_in r ≡ story_of s schedule
-story_is s schedule i r l b =
-    let c = subst (λ (es : List Step). Between s (run s (begun s) es) r) (take_all i schedule l) b in
+pub story_is : (s : Setup) (schedule : List Step) (r : Run) → Between s (run s (begun s) schedule) r → told_in r ≡ story_of s schedule
+story_is s schedule r c =
     let w = final s schedule in
     λ j. record {
       asked = c.asked_are j;

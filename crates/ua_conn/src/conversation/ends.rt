@@ -3,10 +3,13 @@
 ghost use Rattle.std.specs.Prelude.{◌≡◌, ◌≤◌, ◌<◌, ◌++◌, ◌∷◌, [], false, take, drop, IfOk, OnOk};
 ghost use Rattle.ua_frame.specs.Hello.{is_long};
 ghost use Rattle.ua_frame.specs.Streams.{moment_of as counted};
+ghost use Rattle.ua_conn.specs.client.Asker.{Asker};
+ghost use Rattle.ua_conn.specs.client.Held.{client_held};
+ghost use Rattle.ua_conn.specs.client.Sending.{client_bytes};
 ghost use Rattle.ua_conn.specs.BothEnds.{IsConfig};
 ghost use Rattle.ua_conn.specs.Conversing.{setup_of};
 ghost use Rattle.ua_conn.specs.Between.{Between, Tells, is_memory, Meets, Served, Heard, run_of};
-ghost use Rattle.ua_conn.specs.Story.{Setup as Both, World, begun, happens, told};
+ghost use Rattle.ua_conn.specs.Story.{Setup as Both, World, begun, happens, run, told};
 ghost use Rattle.ua_conn.specs.client.Commands as commands;
 ghost use Rattle.ua_conn.specs.declared.schedule.Step.TheVariants as steps;
 
@@ -158,6 +161,27 @@ fn hear(
     }
 }
 
+/// A client that has heard nothing yet, and what it said.
+fn greeting(alloc: Global, setup: &Setup) -> Result<(Client, Vec<u8>), NoMemory>
+    requires config { IsConfig setup.now.config }
+    requires url { is_long setup.now.url.now ≡ false }
+    requires first_least { 1 ≤ setup.now.first_sequence }
+    requires first_most { setup.now.first_sequence ≤ 4294966272 }
+    ensures client { IfOk result (λ made. let a : Asker = (setup_of setup.now).asker in
+        made.0 ≡ record { config = a.config; held = client_held a []; output = []; failed = false }) }
+    ensures up { IfOk result (λ made. made.1.items ≡ client_bytes (setup_of setup.now).asker [] []) }
+{
+    let mut client = Client::new(alloc, setup.config, setup.url, setup.first_sequence)?;
+    let mut up = Vec::new(alloc);
+    match send(&mut client, &mut up) {
+        Ok(()) => Ok((client, up)),
+        Err(e) => {
+            let_go((client, up));
+            Err(e)
+        }
+    }
+}
+
 impl<'a> Ends<'a> {
     /// Both ends before the first step.
     pub(crate) fn begin(alloc: Global, setup: &Setup<'a>) -> Result<Ends<'a>, NoMemory>
@@ -170,26 +194,28 @@ impl<'a> Ends<'a> {
     {
         let start = setup.start;
         let server = Server::new(alloc, setup.settings, setup.channel_id)?;
-        let mut client = Client::new(alloc, setup.config, setup.url, setup.first_sequence)?;
-        let mut up = Vec::new(alloc);
-        send(&mut client, &mut up)?;
-        let story = Story {
-            asked: Vec::new(alloc),
-            handed: Vec::new(alloc),
-            answers: Vec::new(alloc),
-            up,
-            down: Vec::new(alloc),
-            server_end: None,
-            client_fault: None,
-        };
-        Ok(Ends {
-            clock: start,
-            client,
-            server,
-            up_to: 0,
-            down_to: 0,
-            story,
-        })
+        match greeting(alloc, setup) {
+            Ok((client, up)) => Ok(Ends {
+                clock: start,
+                client,
+                server,
+                up_to: 0,
+                down_to: 0,
+                story: Story {
+                    asked: Vec::new(alloc),
+                    handed: Vec::new(alloc),
+                    answers: Vec::new(alloc),
+                    up,
+                    down: Vec::new(alloc),
+                    server_end: None,
+                    client_fault: None,
+                },
+            }),
+            Err(e) => {
+                let_go(server);
+                Err(e)
+            }
+        }
     }
 
     /// Tells the client to ask a request.
@@ -283,5 +309,30 @@ impl<'a> Ends<'a> {
             Step::Up(n) => self.up(*n),
             Step::Down(n) => self.down(*n),
         }
+    }
+
+    /// Makes the steps of a schedule, one after another.
+    pub(crate) fn run(&mut self, schedule: &[Step]) -> Result<(), NoMemory>
+        ensures { OnOk result ((s : Both) (w : World) → Between s w (run_of self.old) → Between s (run s w schedule.now) (run_of self.new)) }
+    {
+        'steps: for step in schedule {
+            self.step(step)?;
+        }
+        Ok(())
+    }
+
+    /// What came of both ends.
+    pub(crate) fn into_story(self) -> Story
+        ensures { result ≡ self.entry.story }
+    {
+        let Ends {
+            client,
+            server,
+            story,
+            ..
+        } = self;
+        let_go(client);
+        let_go(server);
+        story
     }
 }

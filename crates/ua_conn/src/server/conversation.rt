@@ -1,16 +1,64 @@
 //! A whole connection, from the client's bytes to the server's.
 
-ghost use Rattle.std.specs.Prelude.{◌≡◌, ◌<◌, IfOk};
-ghost use Rattle.ua_frame.specs.Streams.{pieces_of, timed};
+ghost use Rattle.std.specs.Prelude.{◌≡◌, ◌<◌, ◌++◌, [], List, IfOk};
+ghost use Rattle.ua_frame.specs.Streams.{moment_of as counted, pieces_of, timed};
+ghost use Rattle.ua_service.specs.declared.request.Request.{Request as Asked};
 ghost use Rattle.ua_conn.specs.server.Site.{Site};
 ghost use Rattle.ua_conn.specs.server.Replies.{reply_bytes, end_of};
 ghost use Rattle.ua_conn.specs.server.Replies as replies;
+ghost use Rattle.ua_conn.specs.server.Feeding.{FeedsAll, Answering};
 
-use crate::outcome::Outcome;
+use crate::outcome::{End, Outcome};
 use crate::server::Server;
 use std::alloc::{AllocError, Global};
 use ua_disco::Settings;
+use ua_service::Request;
 use ua_value::NoMemory;
+use ua_value::plumbing::let_go;
+
+/// Answers one more piece. The result is the end that it brings, if any.
+fn answer_piece(
+    server: &mut Server,
+    now: i64,
+    piece: &[u8],
+    reply: &mut Vec<u8>,
+    handed: &mut Vec<Request>,
+) -> Result<Option<End>, NoMemory>
+    ensures { IfOk result (λ end. (asked : List Asked) × (handed.new.items ≡ handed.old.items ++ asked)
+        × FeedsAll server.old (record { moment = counted now; bytes = piece.now }) reply.old.items reply.new.items asked end server.new) }
+{
+    match server.feed(now, piece, reply) {
+        Ok(mut fed) => {
+            let end = fed.end;
+            handed.append(&mut fed.requests)?;
+            Ok(end)
+        }
+        // No piece follows an end, so the only fault is want of memory.
+        Err(_) => Err(AllocError),
+    }
+}
+
+/// Answers the pieces, up to the first that brings an end. The result is how the connection ended.
+fn answer_pieces(
+    server: &mut Server,
+    pieces: &[(i64, &[u8])],
+    reply: &mut Vec<u8>,
+    handed: &mut Vec<Request>,
+) -> Result<End, NoMemory>
+    ensures reply { IfOk result (λ _. (site : Site) → Answering site [] reply.old.items handed.old.items server.old →
+        reply.new.items ≡ reply_bytes site (timed (pieces_of pieces.now))) }
+    ensures handed { IfOk result (λ _. (site : Site) → Answering site [] reply.old.items handed.old.items server.old →
+        handed.new.items ≡ replies.handed site (timed (pieces_of pieces.now))) }
+    ensures end { IfOk result (λ end. (site : Site) → Answering site [] reply.old.items handed.old.items server.old →
+        end ≡ end_of site (timed (pieces_of pieces.now))) }
+{
+    'pieces: for &(now, piece) in pieces {
+        if let Some(end) = answer_piece(server, now, piece, reply, handed)? {
+            return Ok(end);
+        }
+    }
+    Ok(server.end_of_input())
+}
 
 /// Answers a whole input, which came in these pieces, each with its moment: ticks of 100 ns since 1601-01-01 UTC. The
 /// id of the channel is not 0. OPC 10000-6, 6.7 and 7.1.
@@ -39,16 +87,13 @@ pub fn answer_all(
     let mut server = Server::new(alloc, settings, channel_id)?;
     let mut reply = Vec::new(alloc);
     let mut handed = Vec::new(alloc);
-    'pieces: for &(now, piece) in pieces {
-        // No piece follows an end, so the only fault is want of memory.
-        let Ok(mut fed) = server.feed(now, piece, &mut reply) else {
-            return Err(AllocError);
-        };
-        handed.append(&mut fed.requests)?;
-        if let Some(end) = fed.end {
-            return Ok(Outcome { reply, handed, end });
+    let answered = answer_pieces(&mut server, pieces, &mut reply, &mut handed);
+    let_go(server);
+    match answered {
+        Ok(end) => Ok(Outcome { reply, handed, end }),
+        Err(e) => {
+            let_go((reply, handed));
+            Err(e)
         }
     }
-    let end = server.end_of_input();
-    Ok(Outcome { reply, handed, end })
 }

@@ -10,6 +10,7 @@ use crate::server::connection::admission::heard;
 use crate::server::fault::Fault;
 use ua_frame::{Frame, Kind};
 use ua_service::read_close;
+use ua_value::plumbing::let_go;
 
 impl<'a> Connection<'a> {
     /// Takes a close request, which has no answer. OPC 10000-4, 5.6.3.
@@ -23,7 +24,7 @@ impl<'a> Connection<'a> {
         ensures site { self.new.site ≡ self.old.site }
     {
         let chunk = heard(&mut self.channel, frame, now)?;
-        let _request = read_close(self.alloc, chunk.body())?;
+        let_go(read_close(self.alloc, chunk.body())?);
         Ok(())
     }
 }
