@@ -1,5 +1,4 @@
 pub mod Rows
-pub mod Parsers
 pub mod Lines
 pub mod Values
 pub mod Asked
@@ -7,3 +6,4 @@ pub mod Codes
 pub mod Captures
 pub mod Ends
 pub mod Stops
+pub mod Serving

@@ -1,7 +1,8 @@
 //! The command `answer`: answers the pieces of a connection.
 
-ghost use Rattle.std.specs.Prelude.{◌≡◌, List, ℕ, IfOk, IfErr, Ok, Some, string_bytes};
-ghost use Rattle.ua_command.specs.Answer.{answer_lines, answered as answered_bytes, ending, end_text, stream_of, IsInput, AnswersInput, AnswersBy};
+ghost use Rattle.std.specs.Prelude.{◌≡◌, List, ℕ, map, IfOk, IfErr, Ok, Some, string_bytes};
+ghost use Rattle.ua_frame.specs.Streams.{pieces_of};
+ghost use Rattle.ua_command.specs.Answer.{answer_lines, answered as answered_bytes, ending, end_text, piece_of, stream_of, IsInput, AnswersInput, AnswersBy};
 ghost use Rattle.ua_command.specs.End.{end_status};
 ghost use Rattle.ua_command.specs.Script.{script_in, times};
 ghost use Rattle.ua_command.specs.Stop.{IsInputStop, IsAnswerStop, IsQuiet};
@@ -42,15 +43,23 @@ impl fmt::Display for Ending {
     }
 }
 
-/// What the pieces are answered.
-fn answered(alloc: Global, settings: &Settings, pieces: &[TimedPiece]) -> Result<Outcome, NoMemory>
-    ensures reply { IfOk result (λ outcome. outcome.reply.items ≡ answered_bytes settings.now (stream_of (times pieces.now))) }
-    ensures end { IfOk result (λ outcome. outcome.end ≡ ending settings.now (stream_of (times pieces.now))) }
+/// The moments of the pieces, and their bytes as they are lent to a connection.
+fn lent(alloc: Global, pieces: &[TimedPiece]) -> Result<Vec<(i64, &[u8])>, NoMemory>
+    ensures { IfOk result (λ lent. pieces_of lent.items ≡ map piece_of (times pieces.now)) }
 {
     let mut lent: Vec<(i64, &[u8])> = Vec::new(alloc);
     'pieces: for piece in pieces {
         lent.push((piece.moment, piece.bytes.as_slice()))?;
     }
+    Ok(lent)
+}
+
+/// What the pieces are answered.
+fn answered(alloc: Global, settings: &Settings, pieces: &[TimedPiece]) -> Result<Outcome, NoMemory>
+    ensures reply { IfOk result (λ outcome. outcome.reply.items ≡ answered_bytes settings.now (stream_of (times pieces.now))) }
+    ensures end { IfOk result (λ outcome. outcome.end ≡ ending settings.now (stream_of (times pieces.now))) }
+{
+    let lent = lent(alloc, pieces)?;
     answer_all(alloc, settings, CHANNEL, lent.as_slice())
 }
 

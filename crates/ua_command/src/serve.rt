@@ -13,6 +13,7 @@ use std::rt::{Clock, Files};
 use ua_conn::End;
 use ua_disco::Settings;
 use ua_link::{MachineClock, TcpLink, serve_connection};
+use ua_value::plumbing::let_go;
 
 /// The most reads of one connection.
 const TURNS: u32 = 65536;
@@ -158,6 +159,31 @@ fn tell_address<L: OpenListener, E: Write>(listener: &L, errors: &mut E) {
     }
 }
 
+/// Listens at the address, and serves there. `Link` says that nothing can listen at it.
+fn serve_at<R, O, E>(
+    rt: &R,
+    settings: &Settings,
+    address: &str,
+    connections: u16,
+    output: &mut O,
+    errors: &mut E,
+) -> Result<u8, Stop>
+where
+    R: Net + Clock + AllocGlobal,
+    O: Write,
+    E: Write,
+    ensures ok { IfOk result IsServeStatus }
+    ensures err { IfErr result (λ stop. stop ≡ Stop.Link) }
+    ensures quiet { IfErr result (λ _. O.contents output.new ≡ O.contents output.old) }
+    ensures untold { IfErr result (λ _. E.contents errors.new ≡ E.contents errors.old) }
+{
+    let Ok(listener) = TcpListener::bind(rt, address) else {
+        return Err(Stop::Link);
+    };
+    tell_address(&listener, errors);
+    Ok(serve_on(rt, &listener, settings, connections, output, errors))
+}
+
 /// Listens at the address, tells on `errors` which one it is, serves so many connections by the settings of the source,
 /// and gives the exit status of `serve_on`.
 ///
@@ -180,9 +206,7 @@ where
     ensures untold { IfErr result (λ _. E.contents errors.new ≡ E.contents errors.old) }
 {
     let settings = settings_in(rt, source)?;
-    let Ok(listener) = TcpListener::bind(rt, address) else {
-        return Err(Stop::Link);
-    };
-    tell_address(&listener, errors);
-    Ok(serve_on(rt, &listener, &settings, connections, output, errors))
+    let served = serve_at(rt, &settings, address, connections, output, errors);
+    let_go(settings);
+    served
 }

@@ -4,6 +4,7 @@ ghost use Rattle.std.specs.Prelude.{◌≡◌, map, IfOk};
 ghost use Rattle.ua_variant.specs.Making.{HoldsNone};
 ghost use Rattle.ua_variant.specs.View.{element, items_in};
 
+use crate::leaf::Leaf;
 use crate::variant::{Body, DataValue, Element, Variant};
 use ua_value::{NoMemory, Wire};
 
@@ -69,6 +70,23 @@ impl Element {
     }
 }
 
+/// A value of a plain type, as an element.
+#[inline(always)]
+fn leaf<T: Leaf>(value: T) -> Result<Element, NoMemory>
+    ensures { IfOk result (λ e. element e ≡ T.wrap value) }
+{
+    Ok(value.into_element())
+}
+
+/// A copy of a value of a plain type, as an element.
+#[inline(always)]
+fn copy_leaf<T: Leaf>(value: &T) -> Result<Element, NoMemory>
+    ensures { IfOk result (λ e. element e ≡ T.wrap value.now) }
+{
+    let copy = value.copy()?;
+    Ok(copy.into_element())
+}
+
 /// The same of a value that holds no other one. Its frame is apart from those of the recursion, so a copy of what is
 /// 100 deep needs little stack.
 #[inline(never)]
@@ -77,29 +95,29 @@ fn copy_plain(item: &Element) -> Result<Element, NoMemory>
     ensures { IfOk result (λ e. element e ≡ element item.now) }
 {
     match item {
-        Element::Boolean(value) => Ok(Element::Boolean(*value)),
-        Element::SByte(value) => Ok(Element::SByte(*value)),
-        Element::Byte(value) => Ok(Element::Byte(*value)),
-        Element::Int16(value) => Ok(Element::Int16(*value)),
-        Element::UInt16(value) => Ok(Element::UInt16(*value)),
-        Element::Int32(value) => Ok(Element::Int32(*value)),
-        Element::UInt32(value) => Ok(Element::UInt32(*value)),
-        Element::Int64(value) => Ok(Element::Int64(*value)),
-        Element::UInt64(value) => Ok(Element::UInt64(*value)),
-        Element::Float(value) => Ok(Element::Float(*value)),
-        Element::Double(value) => Ok(Element::Double(*value)),
-        Element::String(value) => Ok(Element::String(value.copy()?)),
-        Element::DateTime(value) => Ok(Element::DateTime(*value)),
-        Element::Guid(value) => Ok(Element::Guid(*value)),
-        Element::ByteString(value) => Ok(Element::ByteString(value.copy()?)),
-        Element::XmlElement(value) => Ok(Element::XmlElement(value.copy()?)),
-        Element::NodeId(value) => Ok(Element::NodeId(value.copy()?)),
-        Element::ExpandedNodeId(value) => Ok(Element::ExpandedNodeId(value.copy()?)),
-        Element::StatusCode(value) => Ok(Element::StatusCode(*value)),
-        Element::QualifiedName(value) => Ok(Element::QualifiedName(value.copy()?)),
-        Element::LocalizedText(value) => Ok(Element::LocalizedText(value.copy()?)),
-        Element::ExtensionObject(value) => Ok(Element::ExtensionObject(value.copy()?)),
-        Element::DiagnosticInfo(value) => Ok(Element::DiagnosticInfo(value.copied()?)),
+        Element::Boolean(value) => leaf(*value),
+        Element::SByte(value) => leaf(*value),
+        Element::Byte(value) => leaf(*value),
+        Element::Int16(value) => leaf(*value),
+        Element::UInt16(value) => leaf(*value),
+        Element::Int32(value) => leaf(*value),
+        Element::UInt32(value) => leaf(*value),
+        Element::Int64(value) => leaf(*value),
+        Element::UInt64(value) => leaf(*value),
+        Element::Float(value) => leaf(*value),
+        Element::Double(value) => leaf(*value),
+        Element::String(value) => copy_leaf(value),
+        Element::DateTime(value) => leaf(*value),
+        Element::Guid(value) => leaf(*value),
+        Element::ByteString(value) => copy_leaf(value),
+        Element::XmlElement(value) => copy_leaf(value),
+        Element::NodeId(value) => copy_leaf(value),
+        Element::ExpandedNodeId(value) => copy_leaf(value),
+        Element::StatusCode(value) => leaf(*value),
+        Element::QualifiedName(value) => copy_leaf(value),
+        Element::LocalizedText(value) => copy_leaf(value),
+        Element::ExtensionObject(value) => copy_leaf(value),
+        Element::DiagnosticInfo(value) => Ok(Element::from(value.copied()?)),
         Element::DataValue(_) => unreachable!(),
         Element::Variant(_) => unreachable!(),
     }

@@ -1,9 +1,9 @@
 //! The words of the command, as `clap` reads them.
 
-ghost use Rattle.std.specs.Prelude.{◌≡◌, IfOk, false};
-ghost use Rattle.clap.specs.Words.{app_of, rule_of};
+ghost use Rattle.std.specs.Prelude.{◌≡◌, IfOk, Ok, false};
+ghost use Rattle.clap.specs.Words.{App, Rule, app_of, new_app, rule_of, with_rule, with_subcommand};
 ghost use Rattle.clap.specs.declared.builder.command.Command.TheViews.{out-Command};
-ghost use Rattle.ua_command.specs.Command.{word_rule, named_rule, type_rule, count_rule, answer_app, value_app, show_app, serve_app, ask_app, plain, answer_or_value, without_links, without_ask, uadisc_with};
+ghost use Rattle.ua_command.specs.Command.{word_rule, named_rule, type_rule, count_rule, answer_app, value_app, show_app, serve_app, ask_app, plain, uadisc_with};
 
 use clap::builder::ValueParser;
 use clap::{Arg, ArgAction, Command as Parser};
@@ -67,84 +67,163 @@ fn count_word<'a>(alloc: Global) -> Arg<'a>
     .value_parser(ValueParser::Unsigned(1, 65535))
 }
 
+/// A parser of this name without words, with its line in the help.
+fn command<'a>(alloc: Global, name: &'a str, about: &'a str) -> Parser<'a>
+    ensures app { app_of result ≡ new_app name.entry.now }
+    ensures local { (out-Command result).has_globals ≡ false }
+{
+    Parser::new(alloc, name).about(about)
+}
+
+/// A parser with one more word, where there is a parser. Steps that take what the last one gave own nothing over a `?`,
+/// which keeps their proofs short.
+fn with_word<'a>(
+    parser: Result<Parser<'a>, AllocError>,
+    word: Arg<'a>,
+) -> Result<Parser<'a>, AllocError>
+    requires { word.global ≡ false }
+    ensures app { (app : App) (rule : Rule) → IfOk parser.entry (λ p. app_of p ≡ app) → rule_of word.entry ≡ rule → IfOk result (λ c. app_of c ≡ with_rule app rule) }
+    ensures local { IfOk parser.entry (λ p. (out-Command p).has_globals ≡ false) → IfOk result (λ c. (out-Command c).has_globals ≡ false) }
+{
+    match parser {
+        Ok(parser) => parser.arg(word),
+        Err(error) => Err(error),
+    }
+}
+
+/// Both, where there are both. Of an `A` and a `B` the prover follows nothing.
+fn both<A: Drop, B: Drop>(
+    a: Result<A, AllocError>,
+    b: Result<B, AllocError>,
+) -> Result<(A, B), AllocError>
+    ensures { IfOk result (λ x. (a ≡ Ok x.0) × (b ≡ Ok x.1)) }
+{
+    Ok((a?, b?))
+}
+
+/// A parser with one more command, where there are both.
+fn with_command<'a>(
+    parser: Result<Parser<'a>, AllocError>,
+    command: Result<Parser<'a>, AllocError>,
+) -> Result<Parser<'a>, AllocError>
+    ensures app { (app sub : App) → IfOk parser.entry (λ p. app_of p ≡ app) → IfOk command.entry (λ c. app_of c ≡ sub) → IfOk command.entry (λ c. (out-Command c).has_globals ≡ false) → IfOk result (λ c. app_of c ≡ with_subcommand app sub.top) }
+    ensures local { IfOk parser.entry (λ p. (out-Command p).has_globals ≡ false) → IfOk command.entry (λ p. (out-Command p).has_globals ≡ false) → IfOk result (λ c. (out-Command c).has_globals ≡ false) }
+{
+    let (parser, command) = both(parser, command)?;
+    parser.subcommand(command)
+}
+
 fn answer_parser<'a>(alloc: Global) -> Result<Parser<'a>, AllocError>
     ensures app { IfOk result (λ c. app_of c ≡ answer_app) }
     ensures local { IfOk result (λ c. (out-Command c).has_globals ≡ false) }
 {
-    Parser::new(alloc, "answer")
-        .about("Answers what a client sends, in hex on standard input, as a server does")
-        .arg(required(
-            alloc,
-            "settings",
-            "SETTINGS",
-            "A file of settings in TOML, or `default` for the built-in ones",
-        ))
+    command(
+        alloc,
+        "answer",
+        "Answers what a client sends, in hex on standard input, as a server does",
+    )
+    .arg(required(
+        alloc,
+        "settings",
+        "SETTINGS",
+        "A file of settings in TOML, or `default` for the built-in ones",
+    ))
 }
 
 fn value_parser<'a>(alloc: Global, names: &'a [&'a str]) -> Result<Parser<'a>, AllocError>
     ensures app { IfOk result (λ c. app_of c ≡ value_app names.entry) }
     ensures local { IfOk result (λ c. (out-Command c).has_globals ≡ false) }
 {
-    Parser::new(alloc, "value")
-        .about("Reads one value of a built-in type from its bytes in OPC UA Binary")
-        .arg(type_word(alloc, names))?
-        .arg(required(alloc, "hex", "HEX", "The bytes in hex, two digits a byte"))
+    let value = command(
+        alloc,
+        "value",
+        "Reads one value of a built-in type from its bytes in OPC UA Binary",
+    );
+    let with_type = with_word(Ok(value), type_word(alloc, names));
+    with_word(
+        with_type,
+        required(alloc, "hex", "HEX", "The bytes in hex, two digits a byte"),
+    )
 }
 
 fn show_parser<'a>(alloc: Global) -> Result<Parser<'a>, AllocError>
     ensures app { IfOk result (λ c. app_of c ≡ show_app) }
     ensures local { IfOk result (λ c. (out-Command c).has_globals ≡ false) }
 {
-    Parser::new(alloc, "show")
-        .about("Shows the frames in the raw bytes of one direction of a connection")
-        .arg(required(
-            alloc,
-            "file",
-            "FILE",
-            "A file of raw bytes, or `-` for standard input",
-        ))
+    command(
+        alloc,
+        "show",
+        "Shows the frames in the raw bytes of one direction of a connection",
+    )
+    .arg(required(
+        alloc,
+        "file",
+        "FILE",
+        "A file of raw bytes, or `-` for standard input",
+    ))
 }
 
 fn serve_parser<'a>(alloc: Global) -> Result<Parser<'a>, AllocError>
     ensures app { IfOk result (λ c. app_of c ≡ serve_app) }
     ensures local { IfOk result (λ c. (out-Command c).has_globals ≡ false) }
 {
-    Parser::new(alloc, "serve")
-        .about("Serves connections over TCP, one after the other, and says how each one ended")
-        .arg(required(
+    let serve = command(
+        alloc,
+        "serve",
+        "Serves connections over TCP, one after the other, and says how each one ended",
+    );
+    let with_settings = with_word(
+        Ok(serve),
+        required(
             alloc,
             "settings",
             "SETTINGS",
             "A file of settings in TOML, or `default` for the built-in ones",
-        ))?
-        .arg(required(
+        ),
+    );
+    let with_address = with_word(
+        with_settings,
+        required(
             alloc,
             "address",
             "ADDR",
             "An address and a port to listen at, as `127.0.0.1:4840`; port 0 takes a free one",
-        ))?
-        .arg(count_word(alloc))
+        ),
+    );
+    with_word(with_address, count_word(alloc))
 }
 
 fn ask_parser<'a>(alloc: Global, names: &'a [&'a str]) -> Result<Parser<'a>, AllocError>
     ensures app { IfOk result (λ c. app_of c ≡ ask_app names.entry) }
     ensures local { IfOk result (λ c. (out-Command c).has_globals ≡ false) }
 {
-    Parser::new(alloc, "ask")
-        .about("Asks a server over TCP for the servers that it knows, or for its endpoints")
-        .arg(named(alloc, "question", "WHAT", "What to ask for", names))?
-        .arg(required(
+    let ask = command(
+        alloc,
+        "ask",
+        "Asks a server over TCP for the servers that it knows, or for its endpoints",
+    );
+    let with_question = with_word(
+        Ok(ask),
+        named(alloc, "question", "WHAT", "What to ask for", names),
+    );
+    let with_address = with_word(
+        with_question,
+        required(
             alloc,
             "address",
             "ADDR",
             "The address and port of the server, as `127.0.0.1:4840`",
-        ))?
-        .arg(required(
+        ),
+    );
+    with_word(
+        with_address,
+        required(
             alloc,
             "url",
             "URL",
             "The url by which the server is called, of at most 4095 bytes",
-        ))
+        ),
+    )
 }
 
 /// The program without its commands, with the texts of its help and its version.
@@ -160,31 +239,6 @@ fn program<'a>(alloc: Global) -> Result<Parser<'a>, AllocError>
     parser.bin_name("uadisc")
 }
 
-fn answer_or_value_parser<'a>(alloc: Global, names: &'a [&'a str]) -> Result<Parser<'a>, AllocError>
-    ensures app { IfOk result (λ c. app_of c ≡ answer_or_value names.entry) }
-    ensures local { IfOk result (λ c. (out-Command c).has_globals ≡ false) }
-{
-    let answer = answer_parser(alloc)?;
-    let value = value_parser(alloc, names)?;
-    program(alloc)?.subcommand(answer)?.subcommand(value)
-}
-
-fn without_links_parser<'a>(alloc: Global, names: &'a [&'a str]) -> Result<Parser<'a>, AllocError>
-    ensures app { IfOk result (λ c. app_of c ≡ without_links names.entry) }
-    ensures local { IfOk result (λ c. (out-Command c).has_globals ≡ false) }
-{
-    let show = show_parser(alloc)?;
-    answer_or_value_parser(alloc, names)?.subcommand(show)
-}
-
-fn without_ask_parser<'a>(alloc: Global, names: &'a [&'a str]) -> Result<Parser<'a>, AllocError>
-    ensures app { IfOk result (λ c. app_of c ≡ without_ask names.entry) }
-    ensures local { IfOk result (λ c. (out-Command c).has_globals ≡ false) }
-{
-    let serve = serve_parser(alloc)?;
-    without_links_parser(alloc, names)?.subcommand(serve)
-}
-
 /// The program, with the names of the types and those of the questions.
 pub fn parser<'a>(
     alloc: Global,
@@ -194,6 +248,9 @@ pub fn parser<'a>(
     ensures app { IfOk result (λ c. app_of c ≡ uadisc_with types.entry questions.entry) }
     ensures local { IfOk result (λ c. (out-Command c).has_globals ≡ false) }
 {
-    let ask = ask_parser(alloc, questions)?;
-    without_ask_parser(alloc, types)?.subcommand(ask)
+    let parser = with_command(program(alloc), answer_parser(alloc));
+    let parser = with_command(parser, value_parser(alloc, types));
+    let parser = with_command(parser, show_parser(alloc));
+    let parser = with_command(parser, serve_parser(alloc));
+    with_command(parser, ask_parser(alloc, questions))
 }

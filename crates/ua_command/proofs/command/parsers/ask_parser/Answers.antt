@@ -1,0 +1,7 @@
+use Rattle.ua_command.proofs.command.parsers.ask_parser.Goals as goal
+
+pub returns-clause-app : goal.returns-clause-app
+returns-clause-app c =
+    let question = c.with_word-with_question.ensures.app _ _ c.command-ask.ensures.app c.named.ensures.rule in
+    let address = c.with_word-with_address.ensures.app _ _ question c.required.ensures.rule in
+    c.with_word.ensures.app _ _ address c.required-2.ensures.rule
