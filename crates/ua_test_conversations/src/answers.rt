@@ -1,6 +1,7 @@
 //! What settings answer to requests, and their readers.
 
 use crate::bytes::joined;
+use crate::lending::by_settings;
 use crate::vectors::{
     ASKED, ENDPOINTS_REQUEST, ENDPOINTS_RESPONSE, FAULT_RESPONSE, FIND_REQUEST, FIND_RESPONSE,
     OTHER_REQUEST,
@@ -81,10 +82,9 @@ pub(crate) fn answers_at(
     request: &[u8],
     answer: &[u8],
 ) -> bool {
-    match Settings::from_toml(alloc, text.as_bytes()) {
-        Ok(settings) => answer_to::<Request>(alloc, &settings, now, request, answer),
-        Err(_) => false,
-    }
+    by_settings(alloc, text, |alloc, settings| {
+        answer_to::<Request>(alloc, settings, now, request, answer)
+    })
 }
 
 /// Frames of requests and of what the settings by default answer.
@@ -155,10 +155,7 @@ pub(crate) fn says_of_itself(
     uri: &str,
     url: Option<&str>,
 ) -> bool {
-    match Settings::from_toml(alloc, text.as_bytes()) {
-        Ok(settings) => shows(&settings, limits, uri, url),
-        Err(_) => false,
-    }
+    by_settings(alloc, text, |_, settings| shows(settings, limits, uri, url))
 }
 
 const LIMITS: Limits = Limits {

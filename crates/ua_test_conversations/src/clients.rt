@@ -1,6 +1,7 @@
 //! A client, byte for byte: it opens a channel, asks, is answered, and refuses what a server must not send.
 
 use crate::bytes::{changed, joined};
+use crate::lending::{by_default, passes};
 use crate::vectors::{
     ABORT_TOO_LARGE, ACKNOWLEDGE, FIND_BODY, FIND_REQUEST, FIND_RESPONSE, OPEN_REQUEST,
     OPEN_RESPONSE, RENEW_REQUEST, RENEW_RESPONSE,
@@ -9,10 +10,9 @@ use std::alloc::Global;
 use ua_conn::{
     Answer, AnswerResult, AskFault, Client, ClientConfig, ClientFault, Setup, Step, Story, converse,
 };
-use ua_disco::{DEFAULT, Settings};
+use ua_disco::Settings;
 use ua_service::{Request, read_request};
 use ua_value::UaString;
-use ua_value::plumbing::let_go;
 
 pub(crate) const CONFIG: ClientConfig = ClientConfig {
     buffer: 65535,
@@ -41,11 +41,7 @@ fn is_answer(answer: &Answer, id: u32, aborted: Option<u32>) -> bool {
     answer.id == id && status == aborted
 }
 
-/// Whether the piece brings the answers with these ids, each aborted with this status, if any.
-pub(crate) fn brings(client: &mut Client, piece: &[u8], ids: &[u32], aborted: Option<u32>) -> bool {
-    let Ok(answers) = client.feed(0, piece) else {
-        return false;
-    };
+fn are_answers(answers: &[Answer], ids: &[u32], aborted: Option<u32>) -> bool {
     let mut same = answers.len() == ids.len();
     for (answer, id) in answers.iter().zip(ids) {
         same &= is_answer(answer, *id, aborted);
@@ -53,26 +49,43 @@ pub(crate) fn brings(client: &mut Client, piece: &[u8], ids: &[u32], aborted: Op
     same
 }
 
-/// Whether the piece breaks the client, with this status, and nothing more is taken.
-fn breaks(client: &mut Client, piece: &[u8], status: u32) -> bool {
-    let broken = match client.feed(0, piece) {
-        Err(ClientFault::Broken(s)) => s == status,
-        _ => false,
-    };
-    let ended = match client.feed(0, b"") {
-        Err(ClientFault::Ended) => true,
-        _ => false,
-    };
-    broken && ended
+/// Whether the piece brings the answers with these ids, each aborted with this status, if any.
+pub(crate) fn brings(client: &mut Client, piece: &[u8], ids: &[u32], aborted: Option<u32>) -> bool {
+    passes(client.feed(0, piece).ok(), |answers| {
+        are_answers(answers.as_slice(), ids, aborted)
+    })
 }
 
-fn refusal(asked: Result<u32, (AskFault, Request)>) -> Result<u32, AskFault> {
+fn is_status(fault: &ClientFault, status: u32) -> bool {
+    match fault {
+        ClientFault::Broken(found) => *found == status,
+        _ => false,
+    }
+}
+
+fn is_end(fault: &ClientFault) -> bool {
+    match fault {
+        ClientFault::Ended => true,
+        _ => false,
+    }
+}
+
+/// Whether the client takes nothing more.
+pub(crate) fn has_ended(client: &mut Client) -> bool {
+    passes(client.feed(0, b"").err(), |fault| is_end(fault))
+}
+
+/// Whether the piece breaks the client, with this status, and nothing more is taken.
+fn breaks(client: &mut Client, piece: &[u8], status: u32) -> bool {
+    let fault = client.feed(0, piece).err();
+    passes(fault, |fault| is_status(fault, status)) && has_ended(client)
+}
+
+/// The id, or why nothing was asked, without the request that is given back.
+fn refusal<T: Drop>(asked: Result<u32, (AskFault, T)>) -> Result<u32, AskFault> {
     match asked {
         Ok(id) => Ok(id),
-        Err((fault, request)) => {
-            let_go(request);
-            Err(fault)
-        }
+        Err((fault, _)) => Err(fault),
     }
 }
 
@@ -87,6 +100,16 @@ fn asks(alloc: Global, client: &mut Client, part_limit: u32) -> Option<Result<u3
 pub(crate) fn greets(alloc: Global) -> Option<Client> {
     let url = UaString::null();
     Client::new(alloc, CONFIG, &url, 1).ok()
+}
+
+/// Whether a client that has greeted passes the test.
+pub(crate) fn by_client<F: FnOnce(Global, &mut Client) -> bool + Drop>(
+    alloc: Global,
+    test: F,
+) -> bool
+    requires { F.IsAlwaysCallable test }
+{
+    passes(greets(alloc), |client| test(alloc, client))
 }
 
 pub(crate) fn opens(client: &mut Client) -> bool {
@@ -111,83 +134,85 @@ pub(crate) fn is_refused(
 }
 
 /// One request: asked, pending, answered, and then none is pending.
-fn is_answered(alloc: Global, mut client: Client) -> bool {
-    opens(&mut client)
-        && is_asked(alloc, &mut client, 69, 2)
-        && says(&mut client, FIND_REQUEST)
+fn is_answered(alloc: Global, client: &mut Client) -> bool {
+    opens(client)
+        && is_asked(alloc, client, 69, 2)
+        && says(client, FIND_REQUEST)
         && client.pending(0).is_some()
         && client.pending(1).is_none()
-        && brings(&mut client, FIND_RESPONSE, &[2], None)
+        && brings(client, FIND_RESPONSE, &[2], None)
         && client.pending(0).is_none()
 }
 
 #[test]
 fn a_client_opens_asks_and_is_answered(rt: HostRuntime) {
-    let client = greets(rt.alloc());
-    let answered = match client {
-        Some(client) => is_answered(rt.alloc(), client),
-        None => false,
-    };
-    assert!(rt; answered);
+    assert!(rt; by_client(rt.alloc(), is_answered));
 }
 
 /// Before the channel is open, with a part limit out of range, over the server's chunks, with a request pending.
-fn is_refused_in_order(alloc: Global, mut client: Client) -> bool {
-    is_refused(alloc, &mut client, 0, AskFault::NotOpen)
-        && opens(&mut client)
-        && is_refused(alloc, &mut client, 0, AskFault::BadPartLimit)
-        && is_refused(alloc, &mut client, 65512, AskFault::BadPartLimit)
-        && is_refused(alloc, &mut client, 1, AskFault::TooLarge)
-        && says(&mut client, b"")
-        && is_asked(alloc, &mut client, 2, 2)
+fn is_refused_in_order(alloc: Global, client: &mut Client) -> bool {
+    is_refused(alloc, client, 0, AskFault::NotOpen)
+        && opens(client)
+        && is_refused(alloc, client, 0, AskFault::BadPartLimit)
+        && is_refused(alloc, client, 65512, AskFault::BadPartLimit)
+        && is_refused(alloc, client, 1, AskFault::TooLarge)
+        && says(client, b"")
+        && is_asked(alloc, client, 2, 2)
         && client.close(0) == Err(AskFault::StillPending)
 }
 
 #[test]
 fn commands_are_refused_by_their_first_reason(rt: HostRuntime) {
-    let client = greets(rt.alloc());
-    let refused = match client {
-        Some(client) => is_refused_in_order(rt.alloc(), client),
-        None => false,
-    };
-    assert!(rt; refused);
+    assert!(rt; by_client(rt.alloc(), is_refused_in_order));
+}
+
+/// A frame with other bytes in a place.
+type Changed = (&'static [u8], usize, &'static [u8]);
+
+const FIRST_ANSWER: Changed = (FIND_RESPONSE, 16, b"\x03");
+
+const LATER_ANSWER: Changed = (FIND_RESPONSE, 20, b"\x03");
+
+const GIVEN_UP: Changed = (ABORT_TOO_LARGE, 16, b"\x04\0\0\0\x04");
+
+/// Whether the frame brings an answer of this id, aborted with this status, if any.
+fn brings_changed(
+    alloc: Global,
+    client: &mut Client,
+    frame: Changed,
+    id: u32,
+    aborted: Option<u32>,
+) -> bool {
+    let (bytes, at, new) = frame;
+    match changed(alloc, bytes, at, new) {
+        Ok(piece) => brings(client, piece.as_slice(), &[id], aborted),
+        Err(_) => false,
+    }
 }
 
 /// Two requests at once: the second is answered first, and each under its own id; then one that is given up.
-fn keeps_apart(alloc: Global, mut client: Client) -> bool {
-    let (Ok(later), Ok(first), Ok(aborted)) = (
-        changed(alloc, FIND_RESPONSE, 20, b"\x03"),
-        changed(alloc, FIND_RESPONSE, 16, b"\x03"),
-        changed(alloc, ABORT_TOO_LARGE, 16, b"\x04\0\0\0\x04"),
-    ) else {
-        return false;
-    };
-    opens(&mut client)
-        && is_asked(alloc, &mut client, 69, 2)
-        && is_asked(alloc, &mut client, 69, 3)
-        && is_asked(alloc, &mut client, 69, 4)
-        && brings(&mut client, later.as_slice(), &[3], None)
-        && brings(&mut client, first.as_slice(), &[2], None)
-        && brings(&mut client, aborted.as_slice(), &[4], Some(0x80B9_0000))
+fn keeps_apart(alloc: Global, client: &mut Client) -> bool {
+    opens(client)
+        && is_asked(alloc, client, 69, 2)
+        && is_asked(alloc, client, 69, 3)
+        && is_asked(alloc, client, 69, 4)
+        && brings_changed(alloc, client, LATER_ANSWER, 3, None)
+        && brings_changed(alloc, client, FIRST_ANSWER, 2, None)
+        && brings_changed(alloc, client, GIVEN_UP, 4, Some(0x80B9_0000))
         && client.pending(0).is_none()
 }
 
 #[test]
 fn answers_come_under_their_own_ids(rt: HostRuntime) {
-    let client = greets(rt.alloc());
-    let apart = match client {
-        Some(client) => keeps_apart(rt.alloc(), client),
-        None => false,
-    };
-    assert!(rt; apart);
+    assert!(rt; by_client(rt.alloc(), keeps_apart));
 }
 
-fn renews(mut client: Client) -> bool {
-    opens(&mut client)
+fn renews(_alloc: Global, client: &mut Client) -> bool {
+    opens(client)
         && client.renew(0).is_ok()
         && client.renew(0) == Err(AskFault::RenewPending)
-        && says(&mut client, RENEW_REQUEST)
-        && brings(&mut client, RENEW_RESPONSE, &[], None)
+        && says(client, RENEW_REQUEST)
+        && brings(client, RENEW_RESPONSE, &[], None)
         && client.renew_due(26_999_999_999) == false
         && client.renew_due(27_000_000_000)
         && client.close(0).is_ok()
@@ -195,31 +220,26 @@ fn renews(mut client: Client) -> bool {
 
 #[test]
 fn a_channel_is_renewed_and_closed(rt: HostRuntime) {
-    let client = greets(rt.alloc());
-    let renewed = match client {
-        Some(client) => renews(client),
-        None => false,
-    };
-    assert!(rt; renewed);
+    assert!(rt; by_client(rt.alloc(), renews));
 }
 
-/// An Acknowledge that takes longer frames than the client has room for, and an answer that nothing asked for.
-fn is_broken(alloc: Global, mut wide: Client, mut quiet: Client) -> bool {
-    let Ok(too_wide) = changed(alloc, ACKNOWLEDGE, 12, b"\0\0\x01") else {
-        return false;
-    };
-    breaks(&mut wide, too_wide.as_slice(), 0x8081_0000)
-        && opens(&mut quiet)
-        && breaks(&mut quiet, FIND_RESPONSE, 0x8009_0000)
+/// An Acknowledge that takes longer frames than the client has room for.
+fn is_broken_at_once(alloc: Global, client: &mut Client) -> bool {
+    match changed(alloc, ACKNOWLEDGE, 12, b"\0\0\x01") {
+        Ok(too_wide) => breaks(client, too_wide.as_slice(), 0x8081_0000),
+        Err(_) => false,
+    }
+}
+
+/// An answer that nothing asked for.
+fn is_broken_open(_alloc: Global, client: &mut Client) -> bool {
+    opens(client) && breaks(client, FIND_RESPONSE, 0x8009_0000)
 }
 
 #[test]
 fn a_server_that_breaks_the_rules_ends_the_client(rt: HostRuntime) {
-    let broken = match (greets(rt.alloc()), greets(rt.alloc())) {
-        (Some(wide), Some(quiet)) => is_broken(rt.alloc(), wide, quiet),
-        _ => false,
-    };
-    assert!(rt; broken);
+    assert!(rt; by_client(rt.alloc(), is_broken_at_once));
+    assert!(rt; by_client(rt.alloc(), is_broken_open));
 }
 
 /// The opening and one request, each frame delivered at once.
@@ -249,19 +269,23 @@ fn story(alloc: Global, settings: &Settings, request: Request) -> Option<Story> 
     converse(alloc, &setup, &schedule).ok()
 }
 
+/// Whether these are the bytes of the frames.
+fn is_joined(alloc: Global, bytes: &[u8], frames: &[&[u8]]) -> bool {
+    match joined(alloc, frames) {
+        Ok(wanted) => bytes == wanted.as_slice(),
+        Err(_) => false,
+    }
+}
+
 fn is_told(alloc: Global, story: &Story) -> bool {
-    let (Ok(up), Ok(down)) = (
-        joined(alloc, &[GREETING, OPEN_REQUEST, FIND_REQUEST]),
-        joined(alloc, &[ACKNOWLEDGE, OPEN_RESPONSE, FIND_RESPONSE]),
-    ) else {
-        return false;
-    };
+    let up = [GREETING, OPEN_REQUEST, FIND_REQUEST];
+    let down = [ACKNOWLEDGE, OPEN_RESPONSE, FIND_RESPONSE];
     let answered = match story.answers.as_slice() {
         [one] => is_answer(one, 2, None),
         _ => false,
     };
-    story.up.as_slice() == up.as_slice()
-        && story.down.as_slice() == down.as_slice()
+    is_joined(alloc, story.up.as_slice(), &up)
+        && is_joined(alloc, story.down.as_slice(), &down)
         && story.asked.len() == 1
         && story.handed.len() == 1
         && answered
@@ -270,20 +294,13 @@ fn is_told(alloc: Global, story: &Story) -> bool {
 }
 
 fn both_ends_converse(alloc: Global, settings: &Settings) -> bool {
-    let Ok(request) = read_request(alloc, FIND_BODY) else {
-        return false;
-    };
-    match story(alloc, settings, request) {
-        Some(story) => is_told(alloc, &story),
-        None => false,
+    match read_request(alloc, FIND_BODY) {
+        Ok(request) => passes(story(alloc, settings, request), |it| is_told(alloc, it)),
+        Err(_) => false,
     }
 }
 
 #[test]
 fn a_client_and_a_server_converse(rt: HostRuntime) {
-    let told = match Settings::from_toml(rt.alloc(), DEFAULT.as_bytes()) {
-        Ok(settings) => both_ends_converse(rt.alloc(), &settings),
-        Err(_) => false,
-    };
-    assert!(rt; told);
+    assert!(rt; by_default(rt.alloc(), both_ends_converse));
 }

@@ -1,6 +1,7 @@
 //! Whole connections of a server, byte for byte.
 
 use crate::bytes::{chunk, joined};
+use crate::lending::{by_default, passes};
 use crate::rows::Phase::{Acknowledged, Begun, Opened};
 use crate::rows::Piece::{Bytes, Changed, EmptyParts, HelloTo};
 use crate::rows::{Phase, Piece, answers, is_answered, made, replied, said, says};
@@ -11,7 +12,7 @@ use crate::vectors::{
 };
 use std::alloc::Global;
 use ua_conn::{End, FeedFault, Server};
-use ua_disco::{DEFAULT, Settings};
+use ua_disco::Settings;
 
 /// What is answered: a name, how far the connection has come, what is said then, the reply to that, how many requests are handed on, and the end.
 type Row = (
@@ -263,8 +264,7 @@ fn cuts_end(alloc: Global, settings: &Settings) -> bool {
 
 #[test]
 fn each_beginning_of_a_connection_has_its_end(rt: HostRuntime) {
-    let settings = Settings::from_toml(rt.alloc(), DEFAULT.as_bytes()).ok();
-    assert!(rt; settings.is_some_and(|settings| cuts_end(rt.alloc(), &settings)));
+    assert!(rt; by_default(rt.alloc(), cuts_end));
 }
 
 /// Settings with a name in two languages.
@@ -329,17 +329,19 @@ fn is_fed(
 }
 
 /// Whether a server takes an opening and a request, a close, and no more.
-fn closes_once(alloc: Global, settings: &Settings, input: &[u8], reply: &[u8]) -> bool {
-    let Ok(mut server) = Server::new(alloc, settings, 1) else {
-        return false;
-    };
+fn closes_once(alloc: Global, server: &mut Server, input: &[u8], reply: &[u8]) -> bool {
     let mut out = Vec::new(alloc);
     let closed = Ok((0, Some(End::Closed)));
-    is_fed(&mut server, input, &mut out, Ok((1, None)))
-        && is_fed(&mut server, CLOSE_REQUEST, &mut out, closed)
+    is_fed(server, input, &mut out, Ok((1, None)))
+        && is_fed(server, CLOSE_REQUEST, &mut out, closed)
         && out.as_slice() == reply
-        && is_fed(&mut server, CLOSE_REQUEST, &mut out, Err(FeedFault::Ended))
+        && is_fed(server, CLOSE_REQUEST, &mut out, Err(FeedFault::Ended))
         && out.as_slice() == reply
+}
+
+fn a_server_closes_once(alloc: Global, settings: &Settings, input: &[u8], reply: &[u8]) -> bool {
+    let server = Server::new(alloc, settings, 1).ok();
+    passes(server, |server| closes_once(alloc, server, input, reply))
 }
 
 fn takes_no_more(alloc: Global, settings: &Settings) -> bool {
@@ -347,13 +349,14 @@ fn takes_no_more(alloc: Global, settings: &Settings) -> bool {
         joined(alloc, &[HELLO, OPEN_REQUEST, OTHER_REQUEST]),
         joined(alloc, &[ACKNOWLEDGE, OPEN_RESPONSE, FAULT_RESPONSE]),
     ) {
-        (Ok(input), Ok(reply)) => closes_once(alloc, settings, input.as_slice(), reply.as_slice()),
+        (Ok(input), Ok(reply)) => {
+            a_server_closes_once(alloc, settings, input.as_slice(), reply.as_slice())
+        }
         _ => false,
     }
 }
 
 #[test]
 fn server_takes_no_more_after_an_end(rt: HostRuntime) {
-    let settings = Settings::from_toml(rt.alloc(), DEFAULT.as_bytes()).ok();
-    assert!(rt; settings.is_some_and(|settings| takes_no_more(rt.alloc(), &settings)));
+    assert!(rt; by_default(rt.alloc(), takes_no_more));
 }

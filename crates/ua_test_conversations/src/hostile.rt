@@ -1,12 +1,12 @@
 //! Streams of a server that breaks the rules, and whether the client refuses them so, as one piece and one byte at a time.
 
-use crate::clients::greets;
+use crate::clients::{by_client, has_ended};
+use crate::lending::{is_made, passes};
 use crate::rows::{Piece, made};
 use crate::vectors::{ACKNOWLEDGE, FIND_BODY, OPENED};
 use std::alloc::Global;
-use ua_conn::{AskFault, Client, ClientFault};
-use ua_service::{Request, read_request};
-use ua_value::plumbing::let_go;
+use ua_conn::{Client, ClientFault};
+use ua_service::read_request;
 
 /// How far a client has come.
 #[derive(Clone, Copy)]
@@ -50,26 +50,12 @@ fn is_fault(fault: &ClientFault, want: Fault) -> bool {
 }
 
 pub(crate) fn goes_on(client: &mut Client, now: i64, piece: &[u8]) -> bool {
-    match client.feed(now, piece) {
-        Ok(_) => true,
-        Err(_) => false,
-    }
-}
-
-fn has_ended(client: &mut Client) -> bool {
-    match client.feed(0, b"") {
-        Err(ClientFault::Ended) => true,
-        _ => false,
-    }
+    is_made(client.feed(now, piece))
 }
 
 /// Whether the piece makes the client fail so, and it takes no more then.
 pub(crate) fn fails(client: &mut Client, now: i64, piece: &[u8], want: Fault) -> bool {
-    let failed = match client.feed(now, piece) {
-        Ok(_) => false,
-        Err(fault) => is_fault(&fault, want),
-    };
-    failed && has_ended(client)
+    passes(client.feed(now, piece).err(), |fault| is_fault(fault, want)) && has_ended(client)
 }
 
 /// Whether each byte but the last brings no fault, and the last makes the client fail so.
@@ -84,29 +70,19 @@ fn fails_at_the_last_byte(client: &mut Client, stream: &[u8], want: Fault) -> bo
     all && fails(client, 0, &[*last], want)
 }
 
-fn is_taken(asked: Result<u32, (AskFault, Request)>) -> bool {
-    match asked {
-        Ok(_) => true,
-        Err((_, request)) => {
-            let_go(request);
-            false
-        }
-    }
-}
-
 /// Asks the request of this body.
 pub(crate) fn asks(alloc: Global, client: &mut Client, body: &[u8]) -> bool {
     if body.len() > 1000 {
         return false;
     }
     match read_request(alloc, body) {
-        Ok(request) => is_taken(client.ask(0, request, 8168)),
+        Ok(request) => is_made(client.ask(0, request, 8168)),
         Err(_) => false,
     }
 }
 
 /// Brings a client that has greeted so far.
-fn comes_to(alloc: Global, client: &mut Client, stage: Stage) -> bool {
+pub(crate) fn comes_to(alloc: Global, client: &mut Client, stage: Stage) -> bool {
     match stage {
         Stage::Greeting => true,
         Stage::Agreed => goes_on(client, 0, ACKNOWLEDGE),
@@ -124,28 +100,16 @@ fn comes_to(alloc: Global, client: &mut Client, stage: Stage) -> bool {
     }
 }
 
-/// A client that has come so far.
-pub(crate) fn client_at(alloc: Global, stage: Stage) -> Option<Client> {
-    let mut client = greets(alloc)?;
-    if comes_to(alloc, &mut client, stage) {
-        Some(client)
-    } else {
-        None
-    }
-}
-
 fn fails_whole(alloc: Global, stage: Stage, stream: &[u8], want: Fault) -> bool {
-    match client_at(alloc, stage) {
-        Some(mut client) => fails(&mut client, 0, stream, want),
-        None => false,
-    }
+    by_client(alloc, |alloc, client| {
+        comes_to(alloc, client, stage) && fails(client, 0, stream, want)
+    })
 }
 
 fn fails_by_bytes(alloc: Global, stage: Stage, stream: &[u8], want: Fault) -> bool {
-    match client_at(alloc, stage) {
-        Some(mut client) => fails_at_the_last_byte(&mut client, stream, want),
-        None => false,
-    }
+    by_client(alloc, |alloc, client| {
+        comes_to(alloc, client, stage) && fails_at_the_last_byte(client, stream, want)
+    })
 }
 
 fn holds(alloc: Global, stage: Stage, stream: &[Piece], want: Fault) -> bool {

@@ -1,6 +1,8 @@
 //! What the client refuses with the first row of its table: parts of answers, and whole ones.
 
-use crate::hostile::{Fault, Row, Stage, asks, client_at, fails, goes_on, other};
+use crate::clients::by_client;
+use crate::hostile::{Fault, Row, Stage, asks, comes_to, fails, goes_on, other};
+use crate::lending::passes;
 use crate::rows::Piece;
 use crate::rows::Piece::{Bytes, Changed, EmptyParts};
 use crate::vectors::{
@@ -182,29 +184,19 @@ const LAST: i64 = 44_999_999_999;
 
 const TOO_LATE: i64 = 45_000_000_000;
 
-fn is_in_time(alloc: Global) -> bool {
-    match client_at(alloc, Stage::Asked(FIND_BODY)) {
-        Some(mut client) => goes_on(&mut client, LAST, FIND_RESPONSE),
-        None => false,
-    }
+fn is_in_time(alloc: Global, client: &mut Client) -> bool {
+    comes_to(alloc, client, Stage::Asked(FIND_BODY)) && goes_on(client, LAST, FIND_RESPONSE)
 }
 
-fn is_too_late(alloc: Global) -> bool {
-    match client_at(alloc, Stage::Asked(FIND_BODY)) {
-        Some(mut client) => fails(
-            &mut client,
-            TOO_LATE,
-            FIND_RESPONSE,
-            Fault::Broken(0x8087_0000),
-        ),
-        None => false,
-    }
+fn is_too_late(alloc: Global, client: &mut Client) -> bool {
+    let late = Fault::Broken(0x8087_0000);
+    comes_to(alloc, client, Stage::Asked(FIND_BODY)) && fails(client, TOO_LATE, FIND_RESPONSE, late)
 }
 
 #[test]
 fn answers_come_while_their_token_is_alive(rt: HostRuntime) {
-    assert!(rt; is_in_time(rt.alloc()));
-    assert!(rt; is_too_late(rt.alloc()));
+    assert!(rt; by_client(rt.alloc(), is_in_time));
+    assert!(rt; by_client(rt.alloc(), is_too_late));
 }
 
 /// A client that takes answers of 110 bytes, as long as the one that comes, and one that takes a byte less.
@@ -235,17 +227,13 @@ fn is_over_limits(alloc: Global, client: &mut Client) -> bool {
 }
 
 fn wide_hears(alloc: Global) -> bool {
-    match Client::new(alloc, WIDE, &UaString::null(), 1) {
-        Ok(mut client) => is_heard(alloc, &mut client),
-        Err(_) => false,
-    }
+    let client = Client::new(alloc, WIDE, &UaString::null(), 1).ok();
+    passes(client, |client| is_heard(alloc, client))
 }
 
 fn narrow_refuses(alloc: Global) -> bool {
-    match Client::new(alloc, NARROW, &UaString::null(), 1) {
-        Ok(mut client) => is_over_limits(alloc, &mut client),
-        Err(_) => false,
-    }
+    let client = Client::new(alloc, NARROW, &UaString::null(), 1).ok();
+    passes(client, |client| is_over_limits(alloc, client))
 }
 
 #[test]

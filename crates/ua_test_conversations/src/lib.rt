@@ -35,6 +35,8 @@ mod hostile_servers;
 #[cfg(test)]
 mod keys;
 #[cfg(test)]
+mod lending;
+#[cfg(test)]
 mod limits;
 #[cfg(test)]
 mod links;

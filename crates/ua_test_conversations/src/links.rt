@@ -3,12 +3,13 @@
 ghost use Rattle.std.specs.Prelude.{◌≡◌, false};
 
 use crate::bytes::joined;
+use crate::lending::{by_default, passes};
 use crate::vectors::{
     ACKNOWLEDGE, CLOSE_REQUEST, FIND_REQUEST, FIND_RESPONSE, HELLO, OPEN_REQUEST, OPEN_RESPONSE,
 };
 use std::alloc::Global;
 use ua_conn::{Client, ClientConfig, End, Server};
-use ua_disco::{DEFAULT, Settings};
+use ua_disco::Settings;
 use ua_link::{
     ClientTurn, Clock, Link, LinkFault, MemoryLink, Report, pump, pump_client, serve_connection,
 };
@@ -87,15 +88,19 @@ impl<'a> Link for FuseLink<'a> {
     }
 }
 
-pub(crate) fn settings(alloc: Global) -> Option<Settings> {
-    Settings::from_toml(alloc, DEFAULT.as_bytes()).ok()
-}
-
 /// What came of a connection: its end, how many bytes it wrote, and how many reads it made.
 pub(crate) type Came = (End, u128, usize);
 
 pub(crate) fn came_of(report: &Report) -> Came {
     (report.end, report.written, report.cuts.len())
+}
+
+/// Whether what was sent is a beginning of the replies, of just so many bytes.
+fn is_sent(alloc: Global, sent: &[u8], written: u128) -> bool {
+    match joined(alloc, &REPLIES) {
+        Ok(replies) => replies.as_slice().starts_with(sent) && sent.len() as u128 == written,
+        Err(_) => false,
+    }
 }
 
 /// Serves the calls over a link that passes so many calls of its own on, and says what came of it and how many it
@@ -107,14 +112,13 @@ fn served(alloc: Global, settings: &Settings, calls: u32, turns: u32) -> Option<
         failures: 0,
     };
     let report = serve_connection(alloc, settings, 1, &mut link, &mut StillClock, turns);
-    let Ok(replies) = joined(alloc, &REPLIES) else {
-        return None;
-    };
-    let sent = link.inner.sent();
-    if !replies.as_slice().starts_with(sent) || sent.len() as u128 != report.written {
-        return None;
+    let came = came_of(&report);
+    let passed = calls.saturating_sub(link.calls);
+    if is_sent(alloc, link.inner.sent(), came.1) {
+        Some((came, passed))
+    } else {
+        None
     }
-    Some((came_of(&report), calls.saturating_sub(link.calls)))
 }
 
 /// For each count of calls that a link passes on: how many bytes went out, and how many reads were made.
@@ -148,13 +152,8 @@ fn is_served_whole(alloc: Global, settings: &Settings) -> bool {
 
 #[test]
 fn a_link_that_fails_ends_the_connection(rt: HostRuntime) {
-    let same = match settings(rt.alloc()) {
-        Some(settings) => {
-            fails_so(rt.alloc(), &settings) && is_served_whole(rt.alloc(), &settings)
-        }
-        None => false,
-    };
-    assert!(rt; same);
+    assert!(rt; by_default(rt.alloc(), fails_so));
+    assert!(rt; by_default(rt.alloc(), is_served_whole));
 }
 
 fn is_spent(alloc: Global, settings: &Settings) -> bool {
@@ -165,11 +164,7 @@ fn is_spent(alloc: Global, settings: &Settings) -> bool {
 
 #[test]
 fn turns_may_be_spent_first(rt: HostRuntime) {
-    let spent = match settings(rt.alloc()) {
-        Some(settings) => is_spent(rt.alloc(), &settings),
-        None => false,
-    };
-    assert!(rt; spent);
+    assert!(rt; by_default(rt.alloc(), is_spent));
 }
 
 /// How a connection ends whose client sends these pieces and no more.
@@ -189,20 +184,13 @@ fn ends_with_its_input(alloc: Global, settings: &Settings) -> bool {
 
 #[test]
 fn a_connection_ends_with_its_input(rt: HostRuntime) {
-    let ends = match settings(rt.alloc()) {
-        Some(settings) => ends_with_its_input(rt.alloc(), &settings),
-        None => false,
-    };
-    assert!(rt; ends);
+    assert!(rt; by_default(rt.alloc(), ends_with_its_input));
 }
 
-fn is_one_turn(alloc: Global, server: &mut Server) -> bool
+fn is_one_turn(alloc: Global, server: &mut Server, calls: &[u8]) -> bool
     requires { server.old.failed ≡ false }
 {
-    let Ok(calls) = joined(alloc, &CALLS) else {
-        return false;
-    };
-    let pieces = [calls.as_slice()];
+    let pieces = [calls];
     let mut link = MemoryLink::new(alloc, &pieces, SEND_LIMIT);
     let turn = pump(alloc, server, &mut link, &mut StillClock);
     turn.cut == Some((0, 338))
@@ -211,20 +199,23 @@ fn is_one_turn(alloc: Global, server: &mut Server) -> bool
         && turn.end == Some(End::Closed)
 }
 
-fn takes_one_turn(alloc: Global, settings: &Settings) -> bool {
+fn are_one_turn(alloc: Global, settings: &Settings, calls: &[u8]) -> bool {
     match Server::new(alloc, settings, 1) {
-        Ok(mut server) => is_one_turn(alloc, &mut server),
+        Ok(mut server) => is_one_turn(alloc, &mut server, calls),
+        Err(_) => false,
+    }
+}
+
+fn takes_one_turn(alloc: Global, settings: &Settings) -> bool {
+    match joined(alloc, &CALLS) {
+        Ok(calls) => are_one_turn(alloc, settings, calls.as_slice()),
         Err(_) => false,
     }
 }
 
 #[test]
 fn one_turn_takes_all_that_came(rt: HostRuntime) {
-    let turn = match settings(rt.alloc()) {
-        Some(settings) => takes_one_turn(rt.alloc(), &settings),
-        None => false,
-    };
-    assert!(rt; turn);
+    assert!(rt; by_default(rt.alloc(), takes_one_turn));
 }
 
 const CONFIG: ClientConfig = ClientConfig {
@@ -236,7 +227,7 @@ const CONFIG: ClientConfig = ClientConfig {
 
 /// What a turn of a client came to: how many answers, or the name of its end.
 fn came_to(turn: ClientTurn) -> Result<usize, &'static str> {
-    match turn {
+    match &turn {
         ClientTurn::Answers(answers) => Ok(answers.len()),
         ClientTurn::InputEnded => Err("input ended"),
         ClientTurn::LinkFailed => Err("link failed"),
@@ -275,10 +266,8 @@ fn a_client_is_pumped(alloc: Global) -> bool {
     let Ok(url) = UaString::new(alloc, "opc.tcp://localhost:4840") else {
         return false;
     };
-    match Client::new(alloc, CONFIG, &url, 1) {
-        Ok(mut client) => is_pumped(alloc, &mut client),
-        Err(_) => false,
-    }
+    let client = Client::new(alloc, CONFIG, &url, 1).ok();
+    passes(client, |client| is_pumped(alloc, client))
 }
 
 #[test]

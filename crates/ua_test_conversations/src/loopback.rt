@@ -3,7 +3,8 @@
 ghost use Rattle.std.specs.Prelude.{◌≡◌};
 
 use crate::bytes::joined;
-use crate::links::{CALLS, Came, REPLIES, StillClock, TURNS, came_of, settings};
+use crate::lending::{by_default, judged};
+use crate::links::{CALLS, Came, REPLIES, StillClock, TURNS, came_of};
 use std::alloc::Global;
 use std::io::{Read, Write};
 use std::net::{Shutdown, TcpListener, TcpStream};
@@ -24,15 +25,13 @@ struct Loopback {
 
 /// The client connects before the server accepts, so neither waits.
 fn connected(rt: &HostRuntime) -> Option<Loopback> {
-    let Ok(listener) = TcpListener::bind(rt, "127.0.0.1:0") else {
-        return None;
-    };
-    let Ok(address) = listener.local_addr() else {
-        return None;
-    };
-    let Ok(near) = TcpStream::connect(rt, address) else {
-        return None;
-    };
+    let listener = TcpListener::bind(rt, "127.0.0.1:0").ok();
+    judged(listener, |listener| connected_to(rt, listener))
+}
+
+fn connected_to(rt: &HostRuntime, listener: &TcpListener) -> Option<Loopback> {
+    let address = listener.local_addr().ok()?;
+    let near = TcpStream::connect(rt, address).ok()?;
     match listener.accept() {
         Ok((far, _)) => Some(Loopback { near, far }),
         Err(_) => None,
@@ -76,12 +75,12 @@ fn calls_all(stream: &mut TcpStream) -> bool {
 }
 
 /// The client says all, is served, and then hears all.
-fn is_served_over_loopback(rt: &HostRuntime, settings: &Settings, both: Loopback) -> bool {
+fn is_served_over_loopback(alloc: Global, settings: &Settings, both: Loopback) -> bool {
     let patient = is_patient(&both);
     let Loopback { mut near, far } = both;
     let called = patient && calls_all(&mut near);
-    let (end, written, _) = serves(rt.alloc(), settings, far);
-    called && end == End::Closed && written == 297 && hears_all(rt.alloc(), &mut near)
+    let (end, written, _) = serves(alloc, settings, far);
+    called && end == End::Closed && written == 297 && hears_all(alloc, &mut near)
 }
 
 /// Serves a stream, which is closed then.
@@ -98,13 +97,21 @@ fn hears_all(alloc: Global, near: &mut TcpStream) -> bool {
     }
 }
 
+fn serves_over_loopback(rt: &HostRuntime, settings: &Settings) -> bool {
+    match connected(rt) {
+        Some(both) => is_served_over_loopback(rt.alloc(), settings, both),
+        None => false,
+    }
+}
+
 #[test]
 fn a_client_is_served_over_loopback(rt: HostRuntime) {
-    let served = match (settings(rt.alloc()), connected(&rt)) {
-        (Some(settings), Some(both)) => is_served_over_loopback(&rt, &settings, both),
-        _ => false,
-    };
-    assert!(rt; served);
+    assert!(rt;
+        by_default(
+            rt.alloc(),
+            |_, settings| serves_over_loopback(&rt, settings)
+        )
+    );
 }
 
 /// A link over loopback whose client says its next call before each read, and hears the reply to the one before first.
@@ -182,11 +189,19 @@ fn takes_turns(alloc: Global, settings: &Settings, both: Loopback) -> bool {
     patient && came == (End::Closed, 297, 4) && link.right && link.turn == 4
 }
 
+fn takes_turns_over_loopback(rt: &HostRuntime, settings: &Settings) -> bool {
+    match connected(rt) {
+        Some(both) => takes_turns(rt.alloc(), settings, both),
+        None => false,
+    }
+}
+
 #[test]
 fn a_client_and_a_server_take_turns_over_loopback(rt: HostRuntime) {
-    let turns = match (settings(rt.alloc()), connected(&rt)) {
-        (Some(settings), Some(both)) => takes_turns(rt.alloc(), &settings, both),
-        _ => false,
-    };
-    assert!(rt; turns);
+    assert!(rt;
+        by_default(
+            rt.alloc(),
+            |_, settings| takes_turns_over_loopback(&rt, settings)
+        )
+    );
 }

@@ -1,10 +1,11 @@
 //! Many requests in one piece, more than the buffer of a server holds.
 
+use crate::lending::by_default;
 use crate::rows::answers_in_pieces;
 use crate::vectors::{FIND_REQUEST, FIND_RESPONSE, OPENED, OPENING};
 use std::alloc::{AllocError, Global};
 use ua_conn::End;
-use ua_disco::{DEFAULT, Settings};
+use ua_disco::Settings;
 
 const COUNT: u32 = 2000;
 
@@ -45,14 +46,7 @@ fn answers_all(alloc: Global, settings: &Settings) -> bool {
     }
 }
 
-fn are_answered(alloc: Global) -> bool {
-    match Settings::from_toml(alloc, DEFAULT.as_bytes()) {
-        Ok(settings) => answers_all(alloc, &settings),
-        Err(_) => false,
-    }
-}
-
 #[test]
 fn two_thousand_finds_are_answered_in_any_pieces(rt: HostRuntime) {
-    assert!(rt; are_answered(rt.alloc()));
+    assert!(rt; by_default(rt.alloc(), answers_all));
 }

@@ -6,6 +6,7 @@ ghost use Rattle.std.specs.Prelude.{◌≡◌, false};
 use crate::answers::Asked;
 use crate::assembling::part;
 use crate::bytes::chunk_at;
+use crate::lending::{judged, passes};
 use crate::vectors::{
     ABORT_TOO_LARGE, CLOSE_REQUEST, ENDPOINTS_REQUEST, ENDPOINTS_RESPONSE, FAULT_RESPONSE,
     FIND_BODY, FIND_REQUEST, FIND_RESPONSE, HELLO, OPEN_REQUEST, OPEN_RESPONSE, OTHER_REQUEST,
@@ -195,24 +196,33 @@ fn are_answered_or_no_memory(alloc: Global, settings: &Settings) -> bool {
     all
 }
 
+fn default_answers_or_no_memory(alloc: Global) -> bool {
+    match Settings::from_toml(alloc, DEFAULT.as_bytes()) {
+        Ok(settings) => are_answered_or_no_memory(alloc, &settings),
+        Err(fault) => matches!(&fault, SettingsFault::NoMemory),
+    }
+}
+
 #[test]
 fn settings_and_answers_or_no_memory(rt: HostRuntime) {
-    match Settings::from_toml(rt.alloc(), DEFAULT.as_bytes()) {
-        Ok(settings) => assert!(rt; are_answered_or_no_memory(rt.alloc(), &settings)),
-        Err(fault) => assert!(rt; matches!(&fault, SettingsFault::NoMemory)),
-    }
+    assert!(rt; default_answers_or_no_memory(rt.alloc()));
 }
 
 /// Settings whose fault is that of an item, whose key grows by parts.
 const REFUSED: &str =
     "version = 1\n[application]\nuri = \"u\"\nnames = [{ text = \"n\" }]\n[[endpoint]]\nurl = \"u\"\ntokens = [{ id = \"0\" }, { id = \"1\", type = 4 }]\n";
 
-fn is_refused_or_no_memory(alloc: Global) -> bool {
-    match Settings::from_toml(alloc, REFUSED.as_bytes()) {
-        Err(SettingsFault::NoMemory) => true,
-        Err(SettingsFault::BadValue(key)) => key.as_str() == "endpoint.0.tokens.1.type",
+fn is_type_or_no_memory(fault: &SettingsFault) -> bool {
+    match fault {
+        SettingsFault::NoMemory => true,
+        SettingsFault::BadValue(key) => key.as_str() == "endpoint.0.tokens.1.type",
         _ => false,
     }
+}
+
+fn is_refused_or_no_memory(alloc: Global) -> bool {
+    let fault = Settings::from_toml(alloc, REFUSED.as_bytes()).err();
+    passes(fault, |fault| is_type_or_no_memory(fault))
 }
 
 #[test]
@@ -239,17 +249,13 @@ fn is_owed(outcome: &Outcome) -> bool {
 
 /// Whether the settings answer the two requests, or `None` where memory ran out.
 fn are_answered(alloc: Global, settings: &Settings) -> Option<bool> {
-    match answer_all(alloc, settings, 1, &TWO_REQUESTS) {
-        Ok(outcome) => Some(is_owed(&outcome)),
-        Err(_) => None,
-    }
+    let outcome = answer_all(alloc, settings, 1, &TWO_REQUESTS).ok();
+    judged(outcome, |outcome| Some(is_owed(outcome)))
 }
 
 fn are_two_answered(alloc: Global) -> Option<bool> {
-    match Settings::from_toml(alloc, DEFAULT.as_bytes()) {
-        Ok(settings) => are_answered(alloc, &settings),
-        Err(_) => None,
-    }
+    let settings = Settings::from_toml(alloc, DEFAULT.as_bytes()).ok();
+    judged(settings, |settings| are_answered(alloc, settings))
 }
 
 /// Where memory is there, none is wanted.

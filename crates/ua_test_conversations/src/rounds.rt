@@ -1,8 +1,9 @@
 //! Many requests at once, and many renewals.
 
 use crate::bytes::changed;
-use crate::clients::{CONFIG, brings, greets, is_asked, is_refused, opens};
+use crate::clients::{CONFIG, brings, by_client, is_asked, is_refused, opens};
 use crate::hostile::asks;
+use crate::lending::{judged, passes};
 use crate::rows::put_changed;
 use crate::telling::{Act, DOWN, UP, aborted, are_all_answered, rounds_of, story_of};
 use crate::vectors::{
@@ -25,16 +26,9 @@ fn takes_64(alloc: Global, client: &mut Client) -> bool {
     all && is_refused(alloc, client, 69, AskFault::TooManyPending)
 }
 
-fn a_client_takes_64(alloc: Global) -> bool {
-    match greets(alloc) {
-        Some(mut client) => takes_64(alloc, &mut client),
-        None => false,
-    }
-}
-
 #[test]
 fn no_more_than_64_requests_are_pending(rt: HostRuntime) {
-    assert!(rt; a_client_takes_64(rt.alloc()));
+    assert!(rt; by_client(rt.alloc(), takes_64));
 }
 
 /// Whether the answers are no aborts, and have ids from the first one on in such steps.
@@ -57,20 +51,15 @@ fn tale(alloc: Global, steps: &[Step]) -> Option<Story> {
 }
 
 fn are_64_answered(alloc: Global, steps: &[Step]) -> bool {
-    match tale(alloc, steps) {
-        Some(story) => {
-            are_all_answered(&story, MOST as usize) && are_numbered(story.answers.as_slice(), 2, 1)
-        }
-        None => false,
-    }
+    passes(tale(alloc, steps), |story| {
+        are_all_answered(story, MOST as usize) && are_numbered(story.answers.as_slice(), 2, 1)
+    })
 }
 
 /// One request more is asked than is taken.
 fn answers_64(alloc: Global) -> bool {
-    match rounds_of(alloc, MOST + 1, &[Act::Ask(FIND_BODY, 69)], &[UP, DOWN]) {
-        Some(steps) => are_64_answered(alloc, steps.as_slice()),
-        None => false,
-    }
+    let steps = rounds_of(alloc, MOST + 1, &[Act::Ask(FIND_BODY, 69)], &[UP, DOWN]);
+    passes(steps, |steps| are_64_answered(alloc, steps.as_slice()))
 }
 
 #[test]
@@ -101,22 +90,23 @@ fn finds_alone(client: &Client) -> bool {
     first && client.pending(1).is_none()
 }
 
-/// Whether the piece brings one answer under the id, to FindServers or to GetEndpoints.
-fn brings_to(client: &mut Client, piece: &[u8], id: u32, find: bool) -> bool {
-    let Ok(answers) = client.feed(0, piece) else {
+fn is_one_answer(answers: &[Answer], id: u32, find: bool) -> bool {
+    let [answer] = answers else {
         return false;
     };
-    match answers.as_slice() {
-        [answer] => {
-            let same = if find {
-                is_find(&answer.request)
-            } else {
-                is_endpoints(&answer.request)
-            };
-            same && answer.id == id && aborted(answer).is_none()
-        }
-        _ => false,
-    }
+    let same = if find {
+        is_find(&answer.request)
+    } else {
+        is_endpoints(&answer.request)
+    };
+    same && answer.id == id && aborted(answer).is_none()
+}
+
+/// Whether the piece brings one answer under the id, to FindServers or to GetEndpoints.
+fn brings_to(client: &mut Client, piece: &[u8], id: u32, find: bool) -> bool {
+    passes(client.feed(0, piece).ok(), |answers| {
+        is_one_answer(answers.as_slice(), id, find)
+    })
 }
 
 /// The second request is answered first.
@@ -131,10 +121,10 @@ fn keeps_apart(alloc: Global, client: &mut Client, later: &[u8], first: &[u8]) -
 }
 
 fn a_client_keeps_apart(alloc: Global, later: &[u8], first: &[u8]) -> bool {
-    match greets(alloc) {
-        Some(mut client) => keeps_apart(alloc, &mut client, later, first),
-        None => false,
-    }
+    by_client(
+        alloc,
+        |alloc, client| keeps_apart(alloc, client, later, first),
+    )
 }
 
 fn answers_are_kept_apart(alloc: Global) -> bool {
@@ -184,22 +174,23 @@ fn replies(alloc: Global, count: u32) -> Result<Vec<u8>, AllocError> {
 
 /// The answers have the ids 3, 5 and on; none where memory ran out.
 fn are_renewed(alloc: Global, count: u32, steps: &[Step], down: &[u8]) -> Option<bool> {
-    match tale(alloc, steps) {
-        Some(story) => Some(
-            are_all_answered(&story, count as usize)
+    judged(tale(alloc, steps), |story| {
+        Some(
+            are_all_answered(story, count as usize)
                 && are_numbered(story.answers.as_slice(), 3, 2)
                 && story.down.as_slice() == down,
-        ),
-        None => None,
-    }
+        )
+    })
 }
 
 /// Whether so many rounds of a renewal and a request are answered; none where memory ran out.
 fn rounds_are_answered(alloc: Global, count: u32) -> Option<bool> {
-    match (rounds_of(alloc, count, &ROUND, &[]), replies(alloc, count)) {
-        (Some(steps), Ok(down)) => are_renewed(alloc, count, steps.as_slice(), down.as_slice()),
-        _ => None,
-    }
+    judged(rounds_of(alloc, count, &ROUND, &[]), |steps| {
+        match replies(alloc, count) {
+            Ok(down) => are_renewed(alloc, count, steps.as_slice(), down.as_slice()),
+            Err(_) => None,
+        }
+    })
 }
 
 #[test]

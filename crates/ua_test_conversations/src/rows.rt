@@ -1,6 +1,7 @@
 //! Inputs of a connection in pieces that tables name, and whether they are answered so however they are cut.
 
 use crate::bytes::{changed, joined};
+use crate::lending::{by_default, by_settings, passes};
 use crate::vectors::{ACKNOWLEDGE, HELLO, OPENED, OPENING};
 use std::alloc::{AllocError, Global};
 use ua_conn::{End, Outcome, answer_all};
@@ -114,10 +115,8 @@ pub(crate) fn answers(
     pieces: &[(i64, &[u8])],
     owed: Owed,
 ) -> bool {
-    match answer_all(alloc, settings, 1, pieces) {
-        Ok(outcome) => is_owed(&outcome, owed),
-        Err(_) => false,
-    }
+    let outcome = answer_all(alloc, settings, 1, pieces).ok();
+    passes(outcome, |outcome| is_owed(outcome, owed))
 }
 
 /// The input in pieces of so many bytes, all at one moment.
@@ -158,18 +157,19 @@ fn answers_any_cut(alloc: Global, settings: &Settings, input: &[u8], owed: Owed)
 
 /// Whether the settings by default answer the input so, however it is cut.
 pub(crate) fn is_answered(alloc: Global, input: &[u8], owed: Owed) -> bool {
-    match Settings::from_toml(alloc, DEFAULT.as_bytes()) {
-        Ok(settings) => answers_any_cut(alloc, &settings, input, owed),
-        Err(_) => false,
-    }
+    by_default(
+        alloc,
+        |alloc, settings| answers_any_cut(alloc, settings, input, owed),
+    )
 }
 
 /// Whether settings of the text answer the pieces so.
 pub(crate) fn says(alloc: Global, text: &str, pieces: &[(i64, &[u8])], owed: Owed) -> bool {
-    match Settings::from_toml(alloc, text.as_bytes()) {
-        Ok(settings) => answers(alloc, &settings, pieces, owed),
-        Err(_) => false,
-    }
+    by_settings(
+        alloc,
+        text,
+        |alloc, settings| answers(alloc, settings, pieces, owed),
+    )
 }
 
 /// Whether an input, whole at the moment 0, is answered by these frames by the settings by default.

@@ -2,6 +2,7 @@
 
 ghost use Rattle.ua_conn.specs.BothEnds.{IsConfig};
 
+use crate::lending::{by_settings, kept};
 use crate::limits::hundred_endpoints;
 use crate::telling::{Act, OPENING, aborted, put_step, put_steps, story_of};
 use crate::vectors::{ENDPOINTS_BODY, FIND_BODY, OTHER_BODY};
@@ -96,11 +97,8 @@ fn put_drawn(alloc: Global, seed: u32, steps: &mut Vec<Step>) -> bool {
 
 fn schedule(alloc: Global, seed: u32) -> Option<Vec<Step>> {
     let mut steps = Vec::new(alloc);
-    if put_steps(alloc, &OPENING, &mut steps) && put_drawn(alloc, seed, &mut steps) {
-        Some(steps)
-    } else {
-        None
-    }
+    let all = put_steps(alloc, &OPENING, &mut steps) && put_drawn(alloc, seed, &mut steps);
+    kept(steps, all)
 }
 
 /// What came of the schedules: how many were told, how many answers came and how many of them were aborted, and how many channels were closed.
@@ -180,10 +178,11 @@ fn is_ample(tally: Tally) -> bool {
 }
 
 fn are_told(alloc: Global, text: &str, first: u32) -> bool {
-    match Settings::from_toml(alloc, text.as_bytes()) {
-        Ok(settings) => is_ample(tell_all(alloc, &settings, first)),
-        Err(_) => false,
-    }
+    by_settings(
+        alloc,
+        text,
+        |alloc, settings| is_ample(tell_all(alloc, settings, first)),
+    )
 }
 
 /// Whether memory runs out in none of the schedules from the first one on.

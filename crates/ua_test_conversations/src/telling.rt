@@ -2,6 +2,7 @@
 
 ghost use Rattle.ua_conn.specs.BothEnds.{IsConfig};
 
+use crate::lending::{judged, kept};
 use crate::rows::{Piece, made};
 use std::alloc::Global;
 use ua_conn::{Answer, AnswerResult, ClientConfig, Setup, Step, Story, converse};
@@ -75,16 +76,13 @@ pub(crate) fn rounds_of(
         all &= put_steps(alloc, round, &mut steps);
     }
     all &= put_steps(alloc, last, &mut steps);
-    if all { Some(steps) } else { None }
+    kept(steps, all)
 }
 
 fn steps_of(alloc: Global, acts: &[Act]) -> Option<Vec<Step>> {
     let mut steps = Vec::new(alloc);
-    if put_steps(alloc, acts, &mut steps) {
-        Some(steps)
-    } else {
-        None
-    }
+    let all = put_steps(alloc, acts, &mut steps);
+    kept(steps, all)
 }
 
 /// What is told of these steps, where channel 1 is opened at the moment 0; none where memory ran out.
@@ -159,10 +157,8 @@ fn is_told_of(
 ) -> Option<bool>
     requires { IsConfig config }
 {
-    match story_of(alloc, settings, config, steps) {
-        Some(story) => Some(is_told(&story, told)),
-        None => None,
-    }
+    let story = story_of(alloc, settings, config, steps);
+    judged(story, |story| Some(is_told(story, told)))
 }
 
 fn tell(
@@ -174,10 +170,9 @@ fn tell(
 ) -> Option<bool>
     requires { IsConfig config }
 {
-    match steps_of(alloc, acts) {
-        Some(steps) => is_told_of(alloc, settings, config, steps.as_slice(), told),
-        None => None,
-    }
+    judged(steps_of(alloc, acts), |steps| {
+        is_told_of(alloc, settings, config, steps.as_slice(), told)
+    })
 }
 
 /// Whether just that is told of a server of these settings and a client of this configuration; none where memory ran out.
@@ -190,10 +185,11 @@ pub(crate) fn tells(
 ) -> Option<bool>
     requires { IsConfig config }
 {
-    match Settings::from_toml(alloc, text.as_bytes()) {
-        Ok(settings) => tell(alloc, &settings, config, acts, told),
-        Err(_) => None,
-    }
+    let settings = Settings::from_toml(alloc, text.as_bytes()).ok();
+    judged(
+        settings,
+        |settings| tell(alloc, settings, config, acts, told),
+    )
 }
 
 /// The same with what both ends say in pieces.
