@@ -222,7 +222,8 @@ def is_owner(segment, owner):
 def paths_of(function, verdicts):
     """The paths that a function may have, with those of the closures in it: one, unless its `impl` is of a type without a name."""
     named = [it for it in verdicts if function.name in it]
-    before = {it: it[: it.index(function.name)] for it in named}
+    # (a function may have the name of its module)
+    before = {it: it[: max(at for at, word in enumerate(it) if word == function.name)] for it in named}
     module = module_of(function.file)
     if not function.owner:
         return [it for it in named if before[it] == module]
@@ -279,7 +280,7 @@ CALLS = re.compile(r"\b[a-z_]\w*\(|[?!\[]|\bfor\b")
 
 
 def control_of(crate, batch):
-    """A function that calls nothing, has no proof file and is not changed by the batch, the shortest first."""
+    """A function that has no proof file and is not changed by the batch: the shortest that calls nothing, or else the shortest."""
     taken = {key_of(it) for place in batch for it in place.functions}
     found = []
     for path in sources(crate.folder):
@@ -287,11 +288,11 @@ def control_of(crate, batch):
         lines = read(path).split("\n")
         for it in functions_of(file, "\n".join(lines)):
             body = "\n".join(lines[it.body : it.last - 1])
-            is_plain = it.first < it.last and not CALLS.search(body) and not re.search(r"\btests?\b", file)
+            is_body = it.first < it.last and not re.search(r"\btests?\b", file)
             proofs = f"{crate.folder}/proofs/{'/'.join(module_of(file))}"
-            if is_plain and key_of(it) not in taken and not has_proofs(proofs, it.name):
-                found.append((len(body), it))
-    return min(found, key=lambda it: (it[0], it[1].file, it[1].first))[1] if found else None
+            if is_body and key_of(it) not in taken and not has_proofs(proofs, it.name):
+                found.append((bool(CALLS.search(body)), len(body), it))
+    return min(found, key=lambda it: (*it[:2], it[2].file, it[2].first))[2] if found else None
 
 
 def has_proofs(folder, name):
