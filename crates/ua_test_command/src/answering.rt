@@ -1,13 +1,12 @@
 //! The command `answer`: the forms of its lines, settings and what is wrong with them, and lines that are bad.
 
-use crate::runs::{Page, Signs, expect};
+use crate::runs::{Signs, ends_so, expect};
 use std::alloc::{AllocError, Global};
 use std::fs;
 use std::net::Net;
 use std::process::Abort;
 use std::rt::{Clock, Files};
 use std::test::Fail;
-use ua_command::run::run;
 use ua_disco::DEFAULT;
 
 pub const HELLO: &str =
@@ -122,12 +121,8 @@ fn refuses_settings_before_a_failed_read(rt: HostRuntime) {
         left: 0,
         fails: true,
     };
-    let mut printed = Page::new(4096);
-    let mut told = Page::new(4096);
     let words = ["answer", "empty.toml"];
-    assert_eq!(rt; run(&rt, &words, &mut input, &mut printed, &mut told), 1);
-    assert_eq!(rt; printed.text(), b"".as_slice());
-    assert_eq!(rt; told.text(), b"settings 2 version\n".as_slice());
+    assert!(rt; ends_so(&rt, &words, &mut input, 1, "", "settings 2 version\n"));
 }
 
 /// A file that is absent, a folder, or none that can have a name.

@@ -1,10 +1,9 @@
 //! The words of `serve` and `ask`, and what stops them before a byte is sent.
 
-use crate::runs::{Page, expect};
+use crate::runs::{ends_so, expect};
 use crate::words::{expect_reason, expect_refusal};
 use std::alloc::{AllocError, Global};
 use std::net::{SocketAddr, TcpListener};
-use ua_command::run::run;
 
 /// A url of so many bytes.
 fn url_of(alloc: Global, len: usize) -> Result<String, AllocError> {
@@ -60,11 +59,14 @@ fn left_address(rt: &HostRuntime) -> Option<SocketAddr> {
 /// Whether the question at an address fails for its link at once.
 fn is_without_link(rt: &HostRuntime, address: &str, url: &str) -> bool {
     let mut input = b"".as_slice();
-    let mut printed = Page::new(4096);
-    let mut told = Page::new(4096);
-    let words = ["ask", "find", address, url];
-    let status = run(rt, &words, &mut input, &mut printed, &mut told);
-    status == 3 && printed.text().is_empty() && told.text() == b"link\n".as_slice()
+    ends_so(
+        rt,
+        &["ask", "find", address, url],
+        &mut input,
+        3,
+        "",
+        "link\n",
+    )
 }
 
 fn finds_nobody(rt: &HostRuntime) -> bool {
@@ -95,11 +97,8 @@ fn refuses_long_url(rt: &HostRuntime) -> bool {
         return false;
     };
     let mut input = b"".as_slice();
-    let mut printed = Page::new(4096);
-    let mut told = Page::new(4096);
     let words = ["ask", "find", "nowhere", url.as_str()];
-    let status = run(rt, &words, &mut input, &mut printed, &mut told);
-    status == 2 && printed.text().is_empty() && told.text() == b"words\n".as_slice()
+    ends_so(rt, &words, &mut input, 2, "", "words\n")
 }
 
 #[test]

@@ -1,11 +1,29 @@
 //! Runs whose growths may be refused.
 
 use crate::answering::{ACKNOWLEDGED, HELLO};
-use crate::runs::Page;
+use crate::runs::{Page, are_written};
 use std::net::Net;
 use std::process::Abort;
 use std::rt::{Clock, Files};
 use ua_command::run::run;
+
+/// Whether a run of the words ends with its full answer, or for want of memory with nothing printed.
+fn ends_so_or_no_memory<R: Files + Net + Clock + AllocGlobal>(
+    rt: &R,
+    words: &[&str],
+    input: &str,
+    status: u8,
+    output: &str,
+    errors: &str,
+) -> bool {
+    let mut input = input.as_bytes();
+    let mut printed = Page::new(4096);
+    let mut told = Page::new(4096);
+    match run(rt, words, &mut input, &mut printed, &mut told) {
+        4 => are_written(&printed, &told, "", "memory\n"),
+        came => came == status && are_written(&printed, &told, output, errors),
+    }
+}
 
 /// Runs the words to their full answer, or to want of memory with nothing printed.
 fn expect_or_no_memory<R: Files + Net + Clock + AllocGlobal + Abort>(
@@ -16,18 +34,7 @@ fn expect_or_no_memory<R: Files + Net + Clock + AllocGlobal + Abort>(
     output: &str,
     errors: &str,
 ) {
-    let mut input = input.as_bytes();
-    let mut printed = Page::new(4096);
-    let mut told = Page::new(4096);
-    let given = run(rt, words, &mut input, &mut printed, &mut told);
-    if given == 4 {
-        assert_eq!(rt; printed.text(), b"".as_slice());
-        assert_eq!(rt; told.text(), b"memory\n".as_slice());
-    } else {
-        assert_eq!(rt; given, status);
-        assert_eq!(rt; printed.text(), output.as_bytes());
-        assert_eq!(rt; told.text(), errors.as_bytes());
-    }
+    assert!(rt; ends_so_or_no_memory(rt, words, input, status, output, errors));
 }
 
 #[test]
@@ -71,28 +78,23 @@ fn refuses_words_or_no_memory(rt: HostRuntime) {
     expect_or_no_memory(&rt, &["value", "Boolean", "0"], "", 2, "", "words\n");
 }
 
-/// A writer over memory whose growth is refused is a failed write, with nothing written.
-#[test]
-fn prints_into_memory_or_no_memory(rt: HostRuntime) {
+/// Whether the answer stands in memory, or nothing does, since memory ran out for it or for the run.
+fn prints_into_memory(rt: &HostRuntime) -> bool {
     let mut input = HELLO.as_bytes();
     let mut printed = Vec::new(rt.alloc());
     let mut told = Page::new(4096);
-    match run(
-        &rt,
-        &["answer", "default"],
-        &mut input,
-        &mut printed,
-        &mut told,
-    ) {
-        0 => assert_eq!(rt; printed.as_slice(), ACKNOWLEDGED.as_bytes()),
-        3 => {
-            assert_eq!(rt; printed.as_slice(), b"".as_slice());
-            assert_eq!(rt; told.text(), b"file\n".as_slice());
-        }
-        status => {
-            assert_eq!(rt; status, 4);
-            assert_eq!(rt; printed.as_slice(), b"".as_slice());
-            assert_eq!(rt; told.text(), b"memory\n".as_slice());
-        }
+    let words = ["answer", "default"];
+    let status = run(rt, &words, &mut input, &mut printed, &mut told);
+    let printed = printed.as_slice();
+    match status {
+        0 => printed == ACKNOWLEDGED.as_bytes(),
+        3 => printed.is_empty() && told.text() == b"file\n".as_slice(),
+        _ => status == 4 && printed.is_empty() && told.text() == b"memory\n".as_slice(),
     }
+}
+
+/// A writer over memory whose growth is refused is a failed write, with nothing written.
+#[test]
+fn prints_into_memory_or_no_memory(rt: HostRuntime) {
+    assert!(rt; prints_into_memory(&rt));
 }

@@ -75,6 +75,26 @@ impl Read for Signs {
     }
 }
 
+/// Whether just this stands on the two pages.
+pub fn are_written(printed: &Page, told: &Page, output: &str, errors: &str) -> bool {
+    printed.text() == output.as_bytes() && told.text() == errors.as_bytes()
+}
+
+/// Whether a run of the words on an input ends with the status, and prints and tells just this.
+pub fn ends_so<R: Files + Net + Clock + AllocGlobal, I: Read>(
+    rt: &R,
+    words: &[&str],
+    input: &mut I,
+    status: u8,
+    output: &str,
+    errors: &str,
+) -> bool {
+    let mut printed = Page::new(4096);
+    let mut told = Page::new(4096);
+    let came = run(rt, words, input, &mut printed, &mut told);
+    came == status && are_written(&printed, &told, output, errors)
+}
+
 /// Runs the words on an input, and compares what is printed and the exit status.
 pub fn expect<R: Files + Net + Clock + AllocGlobal + Abort>(
     rt: &R,
@@ -85,15 +105,19 @@ pub fn expect<R: Files + Net + Clock + AllocGlobal + Abort>(
     errors: &str,
 ) {
     let mut input = input.as_bytes();
-    let mut printed = Page::new(4096);
-    let mut told = Page::new(4096);
-    assert_eq!(rt;
-        run(rt, words, &mut input, &mut printed, &mut told),
-        status,
+    assert!(rt;
+        ends_so(rt, words, &mut input, status, output, errors),
         "{output}{errors}"
     );
-    assert_eq!(rt; printed.text(), output.as_bytes(), "{output}");
-    assert_eq!(rt; told.text(), errors.as_bytes(), "{errors}");
+}
+
+/// Whether words whose output has not enough room fill it, and end as the file does.
+fn fills<R: Files + Net + Clock + AllocGlobal>(rt: &R, words: &[&str], room: usize) -> bool {
+    let mut input = HELLO.as_bytes();
+    let mut printed = Page::new(room);
+    let mut told = Page::new(4096);
+    let came = run(rt, words, &mut input, &mut printed, &mut told);
+    came == 3 && printed.len == room && told.text() == b"file\n".as_slice()
 }
 
 /// Runs words whose output has not enough room.
@@ -102,10 +126,5 @@ pub fn expect_failed_write<R: Files + Net + Clock + AllocGlobal + Abort>(
     words: &[&str],
     room: usize,
 ) {
-    let mut input = HELLO.as_bytes();
-    let mut printed = Page::new(room);
-    let mut told = Page::new(4096);
-    assert_eq!(rt; run(rt, words, &mut input, &mut printed, &mut told), 3);
-    assert_eq!(rt; printed.text().len(), room);
-    assert_eq!(rt; told.text(), b"file\n".as_slice());
+    assert!(rt; fills(rt, words, room), "{room}");
 }

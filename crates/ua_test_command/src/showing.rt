@@ -1,6 +1,6 @@
 //! The lines of `show`.
 
-use crate::runs::{Page, expect, expect_failed_write};
+use crate::runs::{Page, are_written, ends_so, expect, expect_failed_write};
 use std::alloc::{AllocError, Global};
 use std::fs;
 use std::net::Net;
@@ -50,16 +50,10 @@ fn shows<R: Files + Net + Clock + AllocGlobal + Abort>(
     fs::write(rt, "shown.bin", bytes).expect(rt, "a file is written");
     for file in ["-", "shown.bin"] {
         let mut input = bytes;
-        let mut printed = Page::new(4096);
-        let mut told = Page::new(4096);
-        let words = ["show", file];
-        assert_eq!(rt;
-            run(rt, &words, &mut input, &mut printed, &mut told),
-            status,
+        assert!(rt;
+            ends_so(rt, &["show", file], &mut input, status, output, ""),
             "{output}"
         );
-        assert_eq!(rt; printed.text(), output.as_bytes(), "{output}");
-        assert_eq!(rt; told.text(), b"".as_slice());
     }
 }
 
@@ -143,18 +137,19 @@ fn tells_captures_that_cannot_be_read(rt: HostRuntime) {
     expect_failed_write(&rt, &["show", "-"], 3);
 }
 
-/// Shows the capture, or stops for want of memory with nothing printed.
-#[test]
-fn shows_a_capture_or_no_memory(rt: HostRuntime) {
+/// Whether the capture is shown, or memory runs out with nothing printed.
+fn shows_or_no_memory(rt: &HostRuntime) -> bool {
     let mut input = HTTP_BEHIND_HELLO;
     let mut printed = Page::new(4096);
     let mut told = Page::new(4096);
-    match run(&rt, &["show", "-"], &mut input, &mut printed, &mut told) {
-        1 => assert!(rt; printed.text().len() > 90),
-        status => {
-            assert_eq!(rt; status, 4);
-            assert_eq!(rt; printed.text(), b"".as_slice());
-            assert_eq!(rt; told.text(), b"memory\n".as_slice());
-        }
+    match run(rt, &["show", "-"], &mut input, &mut printed, &mut told) {
+        1 => printed.len > 90,
+        status => status == 4 && are_written(&printed, &told, "", "memory\n"),
     }
+}
+
+/// Shows the capture, or stops for want of memory with nothing printed.
+#[test]
+fn shows_a_capture_or_no_memory(rt: HostRuntime) {
+    assert!(rt; shows_or_no_memory(&rt));
 }

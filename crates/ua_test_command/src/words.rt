@@ -6,16 +6,19 @@ use std::process::Abort;
 use std::rt::{Clock, Files};
 use ua_command::run::run;
 
-/// Runs words that clap refuses, and looks for its text and for nothing else.
-pub fn expect_refusal<R: Files + Net + Clock + AllocGlobal + Abort>(rt: &R, words: &[&str]) {
+/// Whether clap refuses the words: it tells its text, and nothing is read or printed.
+fn are_refused<R: Files + Net + Clock + AllocGlobal>(rt: &R, words: &[&str]) -> bool {
     let mut input = b"4g".as_slice();
     let mut printed = Page::new(4096);
     let mut told = Page::new(4096);
-    assert_eq!(rt; run(rt, words, &mut input, &mut printed, &mut told), 2);
-    assert_eq!(rt; printed.text(), b"".as_slice());
-    assert_eq!(rt; input, b"4g".as_slice());
-    assert!(rt; told.text().len() > 20);
-    assert_eq!(rt; told.text().last(), Some(&b'\n'));
+    let status = run(rt, words, &mut input, &mut printed, &mut told);
+    let alone = status == 2 && printed.len == 0 && input == b"4g".as_slice();
+    alone && told.len > 20 && told.text().last() == Some(&b'\n')
+}
+
+/// Runs words that clap refuses, and looks for its text and for nothing else.
+pub fn expect_refusal<R: Files + Net + Clock + AllocGlobal + Abort>(rt: &R, words: &[&str]) {
+    assert!(rt; are_refused(rt, words));
 }
 
 /// Whether some bytes have this text in them.
@@ -28,29 +31,41 @@ fn has(bytes: &[u8], part: &str) -> bool {
     false
 }
 
+/// Whether the words are refused with a text that has this part.
+fn are_refused_with<R: Files + Net + Clock + AllocGlobal>(
+    rt: &R,
+    words: &[&str],
+    part: &str,
+) -> bool {
+    let mut input = b"4g".as_slice();
+    let mut printed = Page::new(4096);
+    let mut told = Page::new(4096);
+    let status = run(rt, words, &mut input, &mut printed, &mut told);
+    status == 2 && printed.len == 0 && has(told.text(), part)
+}
+
 /// Runs words that are refused, and looks for a part of the text.
 pub fn expect_reason<R: Files + Net + Clock + AllocGlobal + Abort>(
     rt: &R,
     words: &[&str],
     part: &str,
 ) {
+    assert!(rt; are_refused_with(rt, words, part), "{part}");
+}
+
+/// Whether the words are answered with a text that has this part, and nothing is read or told.
+fn are_told<R: Files + Net + Clock + AllocGlobal>(rt: &R, words: &[&str], part: &str) -> bool {
     let mut input = b"4g".as_slice();
     let mut printed = Page::new(4096);
     let mut told = Page::new(4096);
-    assert_eq!(rt; run(rt, words, &mut input, &mut printed, &mut told), 2);
-    assert_eq!(rt; printed.text(), b"".as_slice());
-    assert!(rt; has(told.text(), part), "{part}");
+    let status = run(rt, words, &mut input, &mut printed, &mut told);
+    let alone = status == 0 && told.len == 0 && input == b"4g".as_slice();
+    alone && has(printed.text(), part)
 }
 
 /// Runs words that ask for a text, and looks for a part of it.
 fn expect_text<R: Files + Net + Clock + AllocGlobal + Abort>(rt: &R, words: &[&str], part: &str) {
-    let mut input = b"4g".as_slice();
-    let mut printed = Page::new(4096);
-    let mut told = Page::new(4096);
-    assert_eq!(rt; run(rt, words, &mut input, &mut printed, &mut told), 0);
-    assert_eq!(rt; told.text(), b"".as_slice());
-    assert_eq!(rt; input, b"4g".as_slice());
-    assert!(rt; has(printed.text(), part), "{part}");
+    assert!(rt; are_told(rt, words, part), "{part}");
 }
 
 #[test]

@@ -2,6 +2,7 @@
 //! asked for. These tests are run with their first growth refused, too (tools/refuse-growths).
 
 use crate::frames::AGREED;
+use crate::making::data_of;
 use crate::spelling::is_refused;
 use crate::vectors::ACKNOWLEDGE;
 use std::alloc::Global;
@@ -58,6 +59,19 @@ fn null_array_is_read(alloc: Global) -> bool {
 fn nulls_are_read_without_memory(rt: HostRuntime) {
     assert!(rt; null_id_is_read(rt.alloc()));
     assert!(rt; null_array_is_read(rt.alloc()));
+}
+
+/// Whether the DataValue of the null Variant is made.
+fn is_made() -> bool {
+    match data_of(Variant::null()) {
+        Ok(value) => value.depth() == 2,
+        Err(_) => false,
+    }
+}
+
+#[test]
+fn a_data_value_is_made_without_memory(rt: HostRuntime) {
+    assert!(rt; is_made());
 }
 
 fn is_acknowledge(bytes: &[u8]) -> bool {

@@ -94,7 +94,7 @@ fn a_hundred_levels_are_read_and_no_more(rt: HostRuntime) {
 }
 
 fn data_of_100(alloc: Global) -> Result<DataValue, VariantFault> {
-    data_of(alloc, variant_of_99(alloc)?)
+    data_of(variant_of_99(alloc)?)
 }
 
 /// DiagnosticInfos of no part in one another, 100 deep.
@@ -121,15 +121,7 @@ fn data_is_made(alloc: Global) -> bool {
 /// A DataValue of a status, too.
 fn data_with_status(alloc: Global) -> Result<DataValue, VariantFault> {
     let value = variant_of_99(alloc)?;
-    DataValue::new(
-        alloc,
-        Some(value),
-        Some(StatusCode(1)),
-        None,
-        None,
-        None,
-        None,
-    )
+    DataValue::new(Some(value), Some(StatusCode(1)), None, None, None, None)
 }
 
 fn data_with_status_is_made(alloc: Global) -> bool {
@@ -167,7 +159,7 @@ fn array_of_101(alloc: Global) -> Result<Variant, VariantFault> {
 }
 
 fn data_of_101(alloc: Global) -> Result<DataValue, VariantFault> {
-    data_of(alloc, array_of_100(alloc)?)
+    data_of(array_of_100(alloc)?)
 }
 
 fn diagnostics_of_101(alloc: Global) -> Result<DiagnosticInfo, VariantFault> {

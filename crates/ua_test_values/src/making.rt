@@ -62,8 +62,8 @@ pub(crate) fn element_of(alloc: Global, value: Variant) -> Result<Element, Varia
 }
 
 /// The DataValue of a value alone.
-pub(crate) fn data_of(alloc: Global, value: Variant) -> Result<DataValue, VariantFault> {
-    DataValue::new(alloc, Some(value), None, None, None, None, None)
+pub(crate) fn data_of(value: Variant) -> Result<DataValue, VariantFault> {
+    DataValue::new(Some(value), None, None, None, None, None)
 }
 
 /// The Variant of one DataValue.
@@ -84,7 +84,7 @@ pub(crate) fn around(
 pub(crate) fn variant_of_99(alloc: Global) -> Result<Variant, VariantFault> {
     let mut value = Variant::null();
     for _ in 0..49 {
-        value = scalar_of(alloc, data_of(alloc, value)?)?;
+        value = scalar_of(alloc, data_of(value)?)?;
     }
     Ok(value)
 }
@@ -145,11 +145,11 @@ fn variants_hold_what_they_are_given(rt: HostRuntime) {
     assert!(rt; is_made_as(alloc, null, &[0x83, 0xff, 0xff, 0xff, 0xff]));
 }
 
-fn data_of_each_part(alloc: Global) -> Result<DataValue, VariantFault> {
+fn data_of_each_part() -> Result<DataValue, VariantFault> {
     let value = Variant::scalar(Element::Int32(1))?;
     let status = Some(StatusCode(0x800b_0000));
     let (source, server) = (Some(DateTime(2)), Some(DateTime(4)));
-    DataValue::new(alloc, Some(value), status, source, Some(3), server, Some(5))
+    DataValue::new(Some(value), status, source, Some(3), server, Some(5))
 }
 
 fn diagnostics_of_each_part(alloc: Global) -> Result<DiagnosticInfo, VariantFault> {
@@ -174,9 +174,9 @@ fn diagnostics_of_each_part(alloc: Global) -> Result<DiagnosticInfo, VariantFaul
 #[test]
 fn parts_are_held(rt: HostRuntime) {
     let alloc = rt.alloc();
-    let none = DataValue::new(alloc, None, None, None, None, None, None);
+    let none = DataValue::new(None, None, None, None, None, None);
     assert!(rt; is_made_as(alloc, none, &[0]));
-    assert!(rt; is_made_as(alloc, data_of_each_part(alloc), &DATA));
+    assert!(rt; is_made_as(alloc, data_of_each_part(), &DATA));
     assert!(rt; is_made_as(alloc, around(alloc, None), &[0]));
     assert!(rt; is_made_as(alloc, diagnostics_of_each_part(alloc), &DIAGNOSTICS));
 }

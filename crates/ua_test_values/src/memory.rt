@@ -2,7 +2,7 @@
 //! refused in turn (tools/refuse-growths).
 
 use crate::frames::{AGREED, ERROR, TOLD, error_of, hello_of};
-use crate::making::{around, data_of};
+use crate::making::around;
 use crate::requests::{Header, Session, request_of};
 use crate::spelling::{Shown, is_behind, is_text};
 use crate::variants::{DATA, DIAGNOSTICS, Depth};
@@ -204,7 +204,6 @@ fn is_shown_or_no_memory<T: Drop, W: Shown<T>>(made: Result<T, VariantFault>, wa
 #[test]
 fn nested_values_or_no_memory(rt: HostRuntime) {
     let alloc = rt.alloc();
-    assert!(rt; is_shown_or_no_memory(data_of(alloc, Variant::null()), &Depth(2)));
     let inner = around(alloc, None).ok();
     let depth = if inner.is_some() { 2 } else { 1 };
     assert!(rt; is_shown_or_no_memory(around(alloc, inner), &Depth(depth)));

@@ -52,9 +52,9 @@ body_of bodies.Null = spec.null
 body_of (bodies.One e) = spec.one (element e)
 body_of (bodies.Array k o ds) = spec.array_with (kind_of k) (items_in o) ds
 
-abbrev pub data_with : Option (Box spec.Variant) → Stamps → spec.DataValue
+abbrev pub data_with : Option spec.Variant → Stamps → spec.DataValue
 data_with None s = spec.without s
-data_with (Some v) s = spec.with_value v.value s
+data_with (Some v) s = spec.with_value v s
 
 abbrev pub data_of : data_outer.Inside → spec.DataValue
 data_of a = data_with a.value a.stamps

@@ -154,7 +154,6 @@ pub(crate) fn copy_data(value: &DataValue) -> Result<DataValue, NoMemory>
         }),
         Some(inner) => {
             let copy = copy_variant(inner)?;
-            let copy = Box::new(*Box::allocator(inner), copy)?;
             Ok(DataValue {
                 levels,
                 stamps,

@@ -57,7 +57,7 @@ impl Variant {
 
 impl DataValue {
     /// The DataValue whose parts are given.
-    pub(crate) fn of(value: Option<Box<Variant>>, stamps: Stamps) -> DataValue
+    pub(crate) fn of(value: Option<Variant>, stamps: Stamps) -> DataValue
         requires { IsDataValue (data_with value stamps) }
         ensures { result ≡ data_with value stamps }
     {

@@ -29,7 +29,9 @@ pub struct DiagnosticParts {
 
 #[tactic(auto, unfolding(crate::specs::DiagnosticParts::diagnostic_parts))]
 impl DiagnosticParts {
-    /// The parts that the mask flags.
+    /// The parts that the mask flags. Its frame is apart from those of the recursion, so that what is 100 deep is read on
+    /// little stack.
+    #[inline(never)]
     pub(crate) fn read_behind(
         alloc: Global,
         mask: u8,

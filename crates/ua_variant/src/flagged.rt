@@ -18,6 +18,7 @@ pub(crate) fn bit(set: bool, bit: u8) -> u8
 }
 
 /// A part that is kept wherever it is flagged.
+#[inline(always)]
 pub(crate) fn read_kept<T: Wire>(
     alloc: Global,
     flagged: bool,

@@ -1,6 +1,6 @@
 //! Variants and data values, made of their parts.
 
-ghost use Rattle.std.specs.Prelude.{◌≡◌, ◌≤◌, ◌<◌, ◌^◌, ◌⊎◌, ◌↔◌, length, map, None, option_map, IfOk, IfErr, IfSome, IsErrOf, IsOk};
+ghost use Rattle.std.specs.Prelude.{◌≡◌, ◌≤◌, ◌<◌, ◌^◌, ◌↔◌, length, map, option_map, IfOk, IfErr, IfSome, IsErrOf};
 ghost use Rattle.ua_value.specs.Text.{longest};
 ghost use Rattle.ua_variant.specs.Values.{null, one, array_with};
 ghost use Rattle.ua_variant.specs.Spelling.{lengths};
@@ -17,7 +17,6 @@ use crate::reading::count_in;
 use crate::shape::is_shape_of;
 use crate::stamps::Stamps;
 use crate::variant::{Body, DataValue, Element, Variant};
-use std::alloc::Global;
 use ua_kind::{DEEPEST, Kind};
 use ua_value::plumbing::let_go;
 use ua_value::{Array, DateTime, StatusCode, Wire};
@@ -166,10 +165,9 @@ impl DataValue {
     ///
     /// # Errors
     ///
-    /// `TooDeep` exactly where `value` is nested 100 deep already; else `NoMemory` where the room
-    /// for `value` is refused. The value is then dropped. Without `value` no fault comes.
+    /// `TooDeep` exactly where `value` is nested 100 deep already; it is then dropped. No other
+    /// fault comes, and no memory is taken.
     pub fn new(
-        alloc: Global,
         value: Option<Variant>,
         status: Option<StatusCode>,
         source_timestamp: Option<DateTime>,
@@ -181,8 +179,7 @@ impl DataValue {
         requires server { IfSome server_picoseconds (λ n. n ≤ most_picoseconds) }
         ensures made { IfOk result (λ v. v ≡ data_value_of value (of_row (status, (source_timestamp, (source_picoseconds, (server_timestamp, server_picoseconds)))))) }
         ensures too_deep { IsErrOf result VariantFault.TooDeep ↔ IsFull value }
-        ensures faults { IfErr result (λ e. (e ≡ VariantFault.TooDeep) ⊎ (e ≡ VariantFault.NoMemory)) }
-        ensures plain { value ≡ None → IsOk result }
+        ensures faults { IfErr result (λ e. e ≡ VariantFault.TooDeep) }
     {
         let stamps = Stamps {
             status,
@@ -199,7 +196,6 @@ impl DataValue {
             let_go(value);
             return Err(VariantFault::TooDeep);
         }
-        let value = Box::new(alloc, value)?;
         Ok(DataValue::of(Some(value), stamps))
     }
 }

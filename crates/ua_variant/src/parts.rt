@@ -12,20 +12,15 @@ impl DataValue {
     pub fn value(&self) -> Option<&Variant>
         ensures { option_copied result ≡ value_in self.now }
     {
-        match &self.value {
-            None => None,
-            Some(value) => Some(value),
-        }
+        self.value.as_ref()
     }
 
     /// The value, which takes no memory. What else there is is dropped.
     pub fn into_value(self) -> Option<Variant>
         ensures { result ≡ value_in self }
     {
-        match self.value {
-            None => None,
-            Some(value) => Some(Box::into_inner(value)),
-        }
+        let DataValue { value, .. } = self;
+        value
     }
 
     /// The status of the value.

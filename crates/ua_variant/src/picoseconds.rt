@@ -67,6 +67,7 @@ impl Wire for Picoseconds {
         Ok(Picoseconds { tens: self.tens })
     }
 
+    #[inline(always)]
     fn read_front(alloc: Global, input: &[u8]) -> Result<(Picoseconds, &[u8]), ReadFault> {
         let (tens, rest) = u16::read_front(alloc, input)?;
         Ok((Picoseconds::capped(tens), rest))

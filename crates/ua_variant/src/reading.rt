@@ -246,7 +246,7 @@ fn parts_behind(
     mask: u8,
     input: &[u8],
     allowance: u8,
-) -> Result<((Option<Box<Variant>>, Stamps), &[u8]), ReadFault>
+) -> Result<((Option<Variant>, Stamps), &[u8]), ReadFault>
     requires short { length input.now ≤ input_limit }
     requires allowed { allowance < deepest }
     ensures gives { Gives (λ x. (data_with x.0.0 x.0.1, x.1.now)) result ((behind_mask (within allowance) mask).front input.now) }
@@ -261,7 +261,6 @@ fn parts_behind(
         return Ok(((None, stamps), rest));
     }
     let (value, rest) = variant_within(alloc, input, allowance)?;
-    let value = Box::new(alloc, value)?;
     let (stamps, rest) = Stamps::read_behind(alloc, mask, rest)?;
     Ok(((Some(value), stamps), rest))
 }

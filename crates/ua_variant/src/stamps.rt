@@ -22,7 +22,9 @@ pub(crate) struct Stamps {
 
 #[tactic(auto, unfolding(crate::specs::Stamps::stamps))]
 impl Stamps {
-    /// The parts that the mask flags.
+    /// The parts that the mask flags. Its frame is apart from those of the recursion, so that what is 100 deep is read on
+    /// little stack.
+    #[inline(never)]
     pub(crate) fn read_behind(
         alloc: Global,
         mask: u8,

@@ -93,7 +93,7 @@ pub struct Variant {
 pub struct DataValue {
     pub(crate) levels: u8,
     pub(crate) stamps: Stamps,
-    pub(crate) value: Option<Box<Variant>>,
+    pub(crate) value: Option<Variant>,
 }
 
 impl Model for Variant {
