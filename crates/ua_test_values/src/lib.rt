@@ -31,6 +31,8 @@ mod names;
 #[cfg(test)]
 mod nodes;
 #[cfg(test)]
+mod number_arrays;
+#[cfg(test)]
 mod numbers;
 #[cfg(test)]
 mod parts;

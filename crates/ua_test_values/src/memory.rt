@@ -34,7 +34,7 @@ fn is_all_or_nothing(wrote: Result<(), AllocError>, out: &[u8], bytes: &[u8]) ->
 
 /// Whether reading, copying and writing the value that the bytes spell goes all the way, or ends for want of memory, where the bytes are its
 /// canonical spelling. A vector that this test cannot make leaves nothing to see.
-fn is_full_or_no_memory<T: Wire>(alloc: Global, bytes: &[u8]) -> bool {
+pub(crate) fn is_full_or_no_memory<T: Wire>(alloc: Global, bytes: &[u8]) -> bool {
     if bytes.len() > 1000 {
         return false;
     }

@@ -5,4 +5,5 @@ pub mod Tested
 pub mod Cells
 pub mod Digits
 pub mod TextLengths
+pub mod Chunks
 mod Rows

@@ -24,3 +24,4 @@ pub mod Whole
 pub mod Expanded
 pub mod ExpandedLaws
 pub mod Codes
+pub mod Fixed

@@ -1,11 +1,12 @@
 -- Status codes (OPC 10000-6, 5.2.2.11).
 use Rattle.std.specs.Prelude.{ℕ, ◌-◌, ◌==◌, true, if◌then◌else◌, List, ◌∷◌, ◌++◌, codes, length, replicate, Option, Some, None, refl}
 use Rattle.std.specs.Fmt.{digits}
-use Rattle.std.specs.Int.{w32}
+use Rattle.std.specs.Int.{w32, from_le_bytes}
 use Rattle.ua_value.specs.declared.status.StatusCode.{StatusCode}
 use Rattle.ua_value.specs.Format.{Format, IsLawful}
 use Rattle.ua_value.specs.Number.{unsigned}
 use Rattle.ua_value.specs.NumberLaws.{lawful_unsigned, wide_32}
+use Rattle.ua_value.specs.Fixed.{IsFixed, fixed_unsigned, fixed_by, few_32}
 use Rattle.ua_value.specs.Sequence.{by}
 use Rattle.ua_value.specs.SequenceLaws.{lawful_by}
 
@@ -15,6 +16,10 @@ status_code = by (λ s. s.0) (λ n. record { 0 = n }) (unsigned w32)
 pub lawful_status_code : IsLawful status_code
 unfolding status_code
 lawful_status_code = lawful_by _ _ _ (λ s. refl) (λ n. refl) (lawful_unsigned w32 wide_32)
+
+pub fixed_status_code : IsFixed status_code 4 (λ bytes. record { 0 = from_le_bytes w32 bytes })
+unfolding status_code
+fixed_status_code = fixed_by (λ f. f.0) (λ n. record { 0 = n }) (unsigned w32) 4 (λ bytes. from_le_bytes w32 bytes) (fixed_unsigned w32 few_32 wide_32)
 
 -- the name of a status that this stack uses
 unfoldable pub status_name : ℕ → Option (List ℕ)

@@ -1,16 +1,16 @@
 //! Arrays (OPC 10000-6, 5.2.5): a count in four bytes and the items, or -1 for none.
 #![tactic(auto, unfolding(crate::specs::Array::array))]
 
-ghost use Rattle.std.specs.Prelude.{◌≡◌, ◌≤◌, ◌<◌, ◌++◌, ◌↔◌, length, option_map, option_copied, Err, IfOk, IfErr, IsErrOf, OnOk, OnErr};
+ghost use Rattle.std.specs.Prelude.{◌≡◌, ◌≤◌, ◌<◌, ◌↔◌, length, option_map, option_copied, Err, IfOk, IfErr, IsErrOf};
 ghost use Rattle.std.specs.Option.{option_eq};
 ghost use Rattle.std.specs.Cmp.{partial_equiv_from_equiv};
 ghost use Rattle.std.specs.Cmp.Lexicographic.{pointwise, lists_equiv, options_equiv};
 ghost use Rattle.std.specs.Int.{w32};
 ghost use Rattle.std.specs.List.{flat_map, AllByRecursion};
-ghost use Rattle.ua_value.specs.Format.{input_limit, AppendsPart, Gives, Reads};
+ghost use Rattle.ua_value.specs.Format.{input_limit, Gives, Reads};
 ghost use Rattle.ua_value.specs.Text.{longest};
 ghost use Rattle.ua_value.specs.Number.{unsigned};
-ghost use Rattle.ua_value.specs.Array.{array, items_at, CountsMore};
+ghost use Rattle.ua_value.specs.Array.{array, CountsMore};
 ghost use Rattle.ua_value.specs.ArrayLaws.{lawful_array};
 
 use crate::bytes::LONGEST;
@@ -96,17 +96,6 @@ fn len_of_items<T: Wire>(items: &[T]) -> u64
     total
 }
 
-/// Puts the items' spellings, one after another.
-fn emit_items<T: Wire, S: Sink>(items: &[T], out: &mut S) -> Result<(), NoMemory>
-    ensures ok { OnOk result (S.contents out.new ≡ S.contents out.old ++ flat_map T.format.canon items.now) }
-    ensures err { OnErr result (AppendsPart (S.contents out.old) (S.contents out.new) (flat_map T.format.canon items.now)) }
-{
-    for item in items {
-        item.emit(out)?;
-    }
-    Ok(())
-}
-
 fn copy_items<T: Wire>(alloc: Global, items: &[T]) -> Result<Vec<T>, NoMemory>
     ensures { IfOk result (λ v. v.items ≡ items.now) }
 {
@@ -115,26 +104,6 @@ fn copy_items<T: Wire>(alloc: Global, items: &[T]) -> Result<Vec<T>, NoMemory>
         copies.push(item.copy()?)?;
     }
     Ok(copies)
-}
-
-/// As many items as the count says, one after another.
-fn read_items<T: Wire>(
-    alloc: Global,
-    count: u32,
-    input: &[u8],
-) -> Result<(Vec<T>, &[u8]), ReadFault>
-    requires { length input.now ≤ input_limit }
-    ensures gives { Gives (λ x. (x.0.items, x.1.now)) result (items_at T.format.grammar count input.now) }
-    ensures shorter { IfOk result (λ x. length x.1.now ≤ length input.now) }
-{
-    let mut items = Vec::new(alloc);
-    let mut rest = input;
-    for _ in 0..count {
-        let (item, after) = T::read_front(alloc, rest)?;
-        items.push(item)?;
-        rest = after;
-    }
-    Ok((items, rest))
 }
 
 /// Equal where both are none, or both have equal items in the same order.
@@ -175,7 +144,7 @@ impl<T: Wire> Wire for Array<T> {
             None => out.put(&[255, 255, 255, 255]),
             Some(items) => {
                 out.put(&(items.len() as u32).to_le_bytes())?;
-                emit_items(items, out)
+                T::emit_items(items, out)
             }
         }
     }
@@ -205,7 +174,7 @@ impl<T: Wire> Wire for Array<T> {
         if count > LONGEST || rest.len() < count as usize {
             return Err(ReadFault::Refused);
         }
-        let (items, rest) = read_items(alloc, count, rest)?;
+        let (items, rest) = T::read_items(alloc, count, rest)?;
         Ok((Array { items: Some(items) }, rest))
     }
 

@@ -1,7 +1,9 @@
 //! Floating point numbers (OPC 10000-6, 5.2.2.3), kept as their bits: nothing is computed with them.
 
-ghost use Rattle.ua_value.specs.Bits.{float_bits, double_bits, lawful_float_bits, lawful_double_bits};
+ghost use Rattle.std.specs.Int.{w32, w64, from_le_bytes};
+ghost use Rattle.ua_value.specs.Bits.{float_bits, double_bits, lawful_float_bits, lawful_double_bits, fixed_float_bits, fixed_double_bits};
 
+use crate::bulk::{Fixed, emit_fixed, read_fixed};
 use crate::fault::{NoMemory, ReadFault};
 use crate::wire::{Sink, Wire};
 use std::alloc::Global;
@@ -36,7 +38,36 @@ impl Wire for FloatBits {
         Ok((FloatBits(bits), rest))
     }
 
+    fn read_items(
+        alloc: Global,
+        count: u32,
+        input: &[u8],
+    ) -> Result<(Vec<FloatBits>, &[u8]), ReadFault> {
+        read_fixed::<FloatBits, 4>(alloc, count, input)
+    }
+
+    fn emit_items<S: Sink>(items: &[FloatBits], out: &mut S) -> Result<(), NoMemory> {
+        emit_fixed::<FloatBits, S, 4>(items, out)
+    }
+
     ghost laws = { lawful_float_bits };
+}
+
+#[tactic(auto, unfolding(crate::specs::Bits::float_bits))]
+impl Fixed<4> for FloatBits {
+    ghost format = { float_bits };
+
+    ghost value = { λ bytes. record { 0 = from_le_bytes w32 bytes } };
+
+    fn of_bytes(bytes: &[u8; 4]) -> FloatBits {
+        FloatBits(u32::of_bytes(bytes))
+    }
+
+    fn to_bytes(self) -> [u8; 4] {
+        self.0.to_bytes()
+    }
+
+    ghost fixed = { fixed_float_bits };
 }
 
 /// A Double: the bits of an IEEE 754 number of double precision, as they came.
@@ -69,5 +100,34 @@ impl Wire for DoubleBits {
         Ok((DoubleBits(bits), rest))
     }
 
+    fn read_items(
+        alloc: Global,
+        count: u32,
+        input: &[u8],
+    ) -> Result<(Vec<DoubleBits>, &[u8]), ReadFault> {
+        read_fixed::<DoubleBits, 8>(alloc, count, input)
+    }
+
+    fn emit_items<S: Sink>(items: &[DoubleBits], out: &mut S) -> Result<(), NoMemory> {
+        emit_fixed::<DoubleBits, S, 8>(items, out)
+    }
+
     ghost laws = { lawful_double_bits };
+}
+
+#[tactic(auto, unfolding(crate::specs::Bits::double_bits))]
+impl Fixed<8> for DoubleBits {
+    ghost format = { double_bits };
+
+    ghost value = { λ bytes. record { 0 = from_le_bytes w64 bytes } };
+
+    fn of_bytes(bytes: &[u8; 8]) -> DoubleBits {
+        DoubleBits(u64::of_bytes(bytes))
+    }
+
+    fn to_bytes(self) -> [u8; 8] {
+        self.0.to_bytes()
+    }
+
+    ghost fixed = { fixed_double_bits };
 }

@@ -33,6 +33,7 @@
 mod array;
 mod bits;
 mod boolean;
+mod bulk;
 mod bytes;
 mod date;
 mod emit;

@@ -2,11 +2,13 @@
 #![tactic(auto, unfolding(crate::specs::Number::unsigned))]
 
 ghost use Rattle.std.specs.Prelude.{◌≡◌, ◌≤◌, length, option_map, drop, IfSome};
-ghost use Rattle.std.specs.Int.{w8, w16, w32, w64};
+ghost use Rattle.std.specs.Int.{w8, w16, w32, w64, from_le_bytes};
+ghost use Rattle.ua_value.specs.Fixed.{fixed_unsigned, few_8, few_16, few_32, few_64};
 ghost use Rattle.ua_value.specs.Format.{Peeks};
 ghost use Rattle.ua_value.specs.Number.{unsigned};
 ghost use Rattle.ua_value.specs.NumberLaws.{lawful_unsigned, wide_8, wide_16, wide_32, wide_64};
 
+use crate::bulk::{Fixed, emit_fixed, read_fixed};
 use crate::fault::{NoMemory, ReadFault};
 use crate::wire::{Sink, Wire};
 use std::alloc::Global;
@@ -63,7 +65,31 @@ impl Wire for u8 {
         }
     }
 
+    fn read_items(alloc: Global, count: u32, input: &[u8]) -> Result<(Vec<u8>, &[u8]), ReadFault> {
+        read_fixed::<u8, 1>(alloc, count, input)
+    }
+
+    fn emit_items<S: Sink>(items: &[u8], out: &mut S) -> Result<(), NoMemory> {
+        emit_fixed::<u8, S, 1>(items, out)
+    }
+
     ghost laws = { lawful_unsigned w8 wide_8 };
+}
+
+impl Fixed<1> for u8 {
+    ghost format = { unsigned w8 };
+
+    ghost value = { from_le_bytes w8 };
+
+    fn of_bytes(bytes: &[u8; 1]) -> u8 {
+        u8::from_le_bytes(*bytes)
+    }
+
+    fn to_bytes(self) -> [u8; 1] {
+        self.to_le_bytes()
+    }
+
+    ghost fixed = { fixed_unsigned w8 few_8 wide_8 };
 }
 
 impl Wire for u16 {
@@ -94,7 +120,31 @@ impl Wire for u16 {
         }
     }
 
+    fn read_items(alloc: Global, count: u32, input: &[u8]) -> Result<(Vec<u16>, &[u8]), ReadFault> {
+        read_fixed::<u16, 2>(alloc, count, input)
+    }
+
+    fn emit_items<S: Sink>(items: &[u16], out: &mut S) -> Result<(), NoMemory> {
+        emit_fixed::<u16, S, 2>(items, out)
+    }
+
     ghost laws = { lawful_unsigned w16 wide_16 };
+}
+
+impl Fixed<2> for u16 {
+    ghost format = { unsigned w16 };
+
+    ghost value = { from_le_bytes w16 };
+
+    fn of_bytes(bytes: &[u8; 2]) -> u16 {
+        u16::from_le_bytes(*bytes)
+    }
+
+    fn to_bytes(self) -> [u8; 2] {
+        self.to_le_bytes()
+    }
+
+    ghost fixed = { fixed_unsigned w16 few_16 wide_16 };
 }
 
 impl Wire for u32 {
@@ -125,7 +175,31 @@ impl Wire for u32 {
         }
     }
 
+    fn read_items(alloc: Global, count: u32, input: &[u8]) -> Result<(Vec<u32>, &[u8]), ReadFault> {
+        read_fixed::<u32, 4>(alloc, count, input)
+    }
+
+    fn emit_items<S: Sink>(items: &[u32], out: &mut S) -> Result<(), NoMemory> {
+        emit_fixed::<u32, S, 4>(items, out)
+    }
+
     ghost laws = { lawful_unsigned w32 wide_32 };
+}
+
+impl Fixed<4> for u32 {
+    ghost format = { unsigned w32 };
+
+    ghost value = { from_le_bytes w32 };
+
+    fn of_bytes(bytes: &[u8; 4]) -> u32 {
+        u32::from_le_bytes(*bytes)
+    }
+
+    fn to_bytes(self) -> [u8; 4] {
+        self.to_le_bytes()
+    }
+
+    ghost fixed = { fixed_unsigned w32 few_32 wide_32 };
 }
 
 impl Wire for u64 {
@@ -159,5 +233,29 @@ impl Wire for u64 {
         }
     }
 
+    fn read_items(alloc: Global, count: u32, input: &[u8]) -> Result<(Vec<u64>, &[u8]), ReadFault> {
+        read_fixed::<u64, 8>(alloc, count, input)
+    }
+
+    fn emit_items<S: Sink>(items: &[u64], out: &mut S) -> Result<(), NoMemory> {
+        emit_fixed::<u64, S, 8>(items, out)
+    }
+
     ghost laws = { lawful_unsigned w64 wide_64 };
+}
+
+impl Fixed<8> for u64 {
+    ghost format = { unsigned w64 };
+
+    ghost value = { from_le_bytes w64 };
+
+    fn of_bytes(bytes: &[u8; 8]) -> u64 {
+        u64::from_le_bytes(*bytes)
+    }
+
+    fn to_bytes(self) -> [u8; 8] {
+        self.to_le_bytes()
+    }
+
+    ghost fixed = { fixed_unsigned w64 few_64 wide_64 };
 }

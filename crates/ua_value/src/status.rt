@@ -1,8 +1,10 @@
 //! Status codes (OPC 10000-6, 5.2.2.11).
 
 ghost use Rattle.std.specs.Prelude.{◌≡◌, ◌&&◌, nat_lt, nat_le, Some, option_copied};
-ghost use Rattle.ua_value.specs.Status.{status_code, lawful_status_code, status_name, status_text};
+ghost use Rattle.std.specs.Int.{w32, from_le_bytes};
+ghost use Rattle.ua_value.specs.Status.{status_code, lawful_status_code, fixed_status_code, status_name, status_text};
 
+use crate::bulk::{Fixed, emit_fixed, read_fixed};
 use crate::fault::{NoMemory, ReadFault};
 use crate::wire::{Sink, Wire};
 use std::alloc::Global;
@@ -102,5 +104,34 @@ impl Wire for StatusCode {
         Ok((StatusCode(code), rest))
     }
 
+    fn read_items(
+        alloc: Global,
+        count: u32,
+        input: &[u8],
+    ) -> Result<(Vec<StatusCode>, &[u8]), ReadFault> {
+        read_fixed::<StatusCode, 4>(alloc, count, input)
+    }
+
+    fn emit_items<S: Sink>(items: &[StatusCode], out: &mut S) -> Result<(), NoMemory> {
+        emit_fixed::<StatusCode, S, 4>(items, out)
+    }
+
     ghost laws = { lawful_status_code };
+}
+
+#[tactic(auto, unfolding(crate::specs::Status::status_code))]
+impl Fixed<4> for StatusCode {
+    ghost format = { status_code };
+
+    ghost value = { λ bytes. record { 0 = from_le_bytes w32 bytes } };
+
+    fn of_bytes(bytes: &[u8; 4]) -> StatusCode {
+        StatusCode(u32::of_bytes(bytes))
+    }
+
+    fn to_bytes(self) -> [u8; 4] {
+        self.0.to_bytes()
+    }
+
+    ghost fixed = { fixed_status_code };
 }

@@ -1,7 +1,9 @@
 //! Values that are spelled as bytes.
 
 ghost use Rattle.std.specs.Prelude.{◌≡◌, ◌≤◌, ◌++◌, List, ℕ, length, if◌then◌else◌, is_ok, OnOk, OnErr, IfOk, IfErr};
+ghost use Rattle.std.specs.List.{flat_map};
 ghost use Rattle.ua_value.specs.Format.{Format, IsLawful, Reads, Gives, AppendsPart, IsBytes, input_limit};
+ghost use Rattle.ua_value.specs.Array.{items_at};
 
 use crate::fault::{NoMemory, ReadFault};
 use std::alloc::Global;
@@ -109,6 +111,41 @@ pub trait Wire: Sized + Drop {
             Ok((value, rest)) => Ok((value, input.len() - rest.len())),
             Err(fault) => Err(fault),
         }
+    }
+
+    /// So many values, one after another, and what follows them (OPC 10000-6, 5.2.5).
+    ///
+    /// # Errors
+    ///
+    /// `Refused` where the input does not begin with so many spellings; `NoMemory` where a growth was refused.
+    fn read_items(alloc: Global, count: u32, input: &[u8]) -> Result<(Vec<Self>, &[u8]), ReadFault>
+        requires { length input.now ≤ input_limit }
+        ensures gives { Gives (λ x. (x.0.items, x.1.now)) result (items_at format.grammar count input.now) }
+        ensures shorter { IfOk result (λ x. length x.1.now ≤ length input.now) }
+    {
+        let mut items = Vec::new(alloc);
+        let mut rest = input;
+        for _ in 0..count {
+            let (item, after) = Self::read_front(alloc, rest)?;
+            items.push(item)?;
+            rest = after;
+        }
+        Ok((items, rest))
+    }
+
+    /// Puts the canonical spellings of the values into `out`, one after another (OPC 10000-6, 5.2.5).
+    ///
+    /// # Errors
+    ///
+    /// `NoMemory` where a growth was refused; a beginning of the spellings may have been put.
+    fn emit_items<S: Sink>(items: &[Self], out: &mut S) -> Result<(), NoMemory>
+        ensures ok { OnOk result (S.contents out.new ≡ S.contents out.old ++ flat_map format.canon items.now) }
+        ensures err { OnErr result (AppendsPart (S.contents out.old) (S.contents out.new) (flat_map format.canon items.now)) }
+    {
+        for item in items {
+            item.emit(out)?;
+        }
+        Ok(())
     }
 
     // what is read is spelled so, what is spelled so is read, and the canonical spelling is one
