@@ -3,5 +3,7 @@ pub mod DiagnosticSteps
 pub mod ExtensionForms
 pub mod Made
 pub mod PlainSteps
+pub mod PlainVariants
 mod Rows
 pub mod Steps
+pub mod Unflagged

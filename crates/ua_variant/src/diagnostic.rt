@@ -168,6 +168,28 @@ impl DiagnosticInfo {
     }
 }
 
+impl DiagnosticInfo {
+    /// What `read_within` gives. One that says nothing, as nearly all do, takes a short way.
+    pub(crate) fn front_within(
+        alloc: Global,
+        input: &[u8],
+        allowance: u8,
+    ) -> Result<(DiagnosticInfo, &[u8]), ReadFault>
+        requires short { length input.now ≤ input_limit }
+        requires allowed { allowance ≤ deepest }
+        ensures gives { Gives (λ x. (x.0, x.1.now)) result ((within allowance).front input.now) }
+        ensures shorter { IfOk result (λ x. length x.1.now ≤ length input.now) }
+        ensures depth { IfOk result (λ x. depth x.0 ≤ allowance) }
+    {
+        if let [mask, rest @ ..] = input {
+            if *mask == 0 && allowance > 0 {
+                return Ok((DiagnosticInfo::empty(), rest));
+            }
+        }
+        DiagnosticInfo::read_within(alloc, input, allowance)
+    }
+}
+
 #[tactic(auto, unfolding(crate::specs::Diagnostic::diagnostic))]
 impl Wire for DiagnosticInfo {
     ghost format = { diagnostic };
@@ -189,7 +211,7 @@ impl Wire for DiagnosticInfo {
     }
 
     fn read_front(alloc: Global, input: &[u8]) -> Result<(DiagnosticInfo, &[u8]), ReadFault> {
-        DiagnosticInfo::read_within(alloc, input, allowance())
+        DiagnosticInfo::front_within(alloc, input, allowance())
     }
 
     ghost laws = { lawful_diagnostic };
@@ -241,14 +263,7 @@ impl DiagnosticInfo {
     pub fn empty() -> DiagnosticInfo
         ensures { result ≡ diagnostic_of (of_row (None, (None, (None, (None, (None, None)))))) None }
     {
-        DiagnosticInfo::plain(DiagnosticParts {
-            symbolic_id: None,
-            namespace_uri: None,
-            locale: None,
-            localized_text: None,
-            additional_info: UaString::null(),
-            inner_status: None,
-        })
+        DiagnosticInfo::plain(DiagnosticParts::none())
     }
 
     /// What it says and the diagnostics of the error below it, which takes no memory.

@@ -1,8 +1,8 @@
 //! What a DiagnosticInfo says beside the one inside it.
 
-ghost use Rattle.std.specs.Prelude.{◌≡◌, ◌≤◌, ◌<◌, ◌+◌, ◌++◌, length, IfOk, OnOk, OnErr};
+ghost use Rattle.std.specs.Prelude.{◌≡◌, ◌≤◌, ◌<◌, ◌+◌, ◌++◌, length, None, IfOk, OnOk, OnErr};
 ghost use Rattle.ua_value.specs.Format.{AppendsPart, Gives, input_limit};
-ghost use Rattle.ua_variant.specs.DiagnosticParts.{diagnostic_parts};
+ghost use Rattle.ua_variant.specs.DiagnosticParts.{diagnostic_parts, of_row};
 
 use crate::flagged::{Kept, Then, UnlessNull, bit, copy_kept, kept_len, read_kept, text_len};
 use std::alloc::Global;
@@ -29,6 +29,20 @@ pub struct DiagnosticParts {
 
 #[tactic(auto, unfolding(crate::specs::DiagnosticParts::diagnostic_parts))]
 impl DiagnosticParts {
+    /// Those that say nothing. They take no memory.
+    pub(crate) fn none() -> DiagnosticParts
+        ensures { result ≡ of_row (None, (None, (None, (None, (None, None))))) }
+    {
+        DiagnosticParts {
+            symbolic_id: None,
+            namespace_uri: None,
+            locale: None,
+            localized_text: None,
+            additional_info: UaString::null(),
+            inner_status: None,
+        }
+    }
+
     /// The parts that the mask flags. Its frame is apart from those of the recursion, so that what is 100 deep is read on
     /// little stack.
     #[inline(never)]

@@ -6,9 +6,11 @@ ghost use Rattle.ua_value.specs.Number.{unsigned};
 ghost use Rattle.ua_value.specs.Array.{items_at, CountsMore};
 ghost use Rattle.ua_value.specs.Localized.{has};
 ghost use Rattle.std.specs.Int.{w32};
+ghost use Rattle.ua_value.specs.Sequence.{made};
+ghost use Rattle.ua_variant.specs.Kinds.{variant_kind, data_kind, info_kind, kind_number};
 ghost use Rattle.ua_variant.specs.Values.{deepest, count_of};
 ghost use Rattle.ua_variant.specs.Chains.{list};
-ghost use Rattle.ua_variant.specs.Reading.{singles, arrays, behind_head, behind_mask, within, data_within, elements_within, VariantCountsMore, DataCountsMore};
+ghost use Rattle.ua_variant.specs.Reading.{one_of, leaves, singles, arrays, behind_head, behind_mask, within, data_within, elements_within, VariantCountsMore, DataCountsMore};
 ghost use Rattle.ua_variant.specs.View.{kind_of, element, items_in, body_of, data_with};
 
 use crate::diagnostic::DiagnosticInfo;
@@ -21,6 +23,10 @@ use std::alloc::Global;
 use ua_kind::Kind;
 use ua_value::ReadFault;
 use ua_value::plumbing::{LONGEST, front_u32};
+
+/// Room for so many elements that hold others is made at once. More is made as they come: a list inside a list may say a
+/// count that is never met.
+const FEW: u32 = 4;
 
 /// The Variant at the front that is at most so deep, and what follows it.
 #[cycle(read)]
@@ -41,8 +47,30 @@ pub(crate) fn variant_within(
     let [head, rest @ ..] = input else {
         return Err(ReadFault::Refused);
     };
-    let (body, rest) = body_behind(alloc, *head, rest, allowance - 1)?;
+    let head = *head;
+    if head & 0x80 == 0 && head & 0x40 == 0 {
+        if let Some(kind) = Kind::named(head & 0x3f) {
+            if kind.is_plain() {
+                return plain_variant(alloc, kind, rest);
+            }
+        }
+    }
+    let (body, rest) = body_behind(alloc, head, rest, allowance - 1)?;
     Ok((Variant::of(body), rest))
+}
+
+/// A Variant of a single plain value, behind its first byte: a short way for what most are.
+#[inline(never)]
+fn plain_variant(alloc: Global, kind: Kind, input: &[u8]) -> Result<(Variant, &[u8]), ReadFault>
+    requires short { length input.now ≤ input_limit }
+    requires kind { kind_number (kind_of kind) ≤ 22 }
+    ensures gives { Gives (λ x. (x.0, x.1.now)) result ((made one_of (leaves (kind_of kind))).front input.now) }
+    ensures shorter { IfOk result (λ x. length x.1.now ≤ length input.now) }
+{
+    let (one, rest) = leaf_front(alloc, kind, input)?;
+    let levels = one.depth() + 1;
+    let body = Body::One(one);
+    Ok((Variant { levels, body }, rest))
 }
 
 /// What follows the first byte of a Variant whose elements are at most so deep.
@@ -176,11 +204,13 @@ fn each_within(
     if kind.is_plain() {
         return each_leaf(alloc, kind, count, input);
     }
-    let mut items = Vec::new(alloc);
+    let mut items = Vec::with_capacity(alloc, count.min(FEW) as usize)?;
     let mut rest = input;
     for _ in 0..count {
+        // `push` could hand the element back, so it would copy it once more for each element.
+        items.reserve(1)?;
         let (item, after) = element_within(alloc, kind, rest, allowance)?;
-        items.push(item)?;
+        items.push_reserved(item);
         rest = after;
     }
     Ok((items, rest))
@@ -200,20 +230,54 @@ fn element_within(
     ensures shorter { IfOk result (λ x. length x.1.now ≤ length input.now) }
 {
     match kind {
-        Kind::Variant => {
-            let (value, rest) = variant_within(alloc, input, allowance)?;
-            Ok((Element::Variant(Box::new(alloc, value)?), rest))
-        }
-        Kind::DataValue => {
-            let (value, rest) = data_within(alloc, input, allowance)?;
-            Ok((Element::DataValue(Box::new(alloc, value)?), rest))
-        }
-        Kind::DiagnosticInfo => {
-            let (value, rest) = DiagnosticInfo::read_within(alloc, input, allowance)?;
-            Ok((Element::DiagnosticInfo(value), rest))
-        }
+        Kind::Variant => variant_element(alloc, input, allowance),
+        Kind::DataValue => data_element(alloc, input, allowance),
+        Kind::DiagnosticInfo => info_element(alloc, input, allowance),
         _ => leaf_front(alloc, kind, input),
     }
+}
+
+/// A Variant as an element. It stands by itself, as the two below do, so that no element fills the room for another kind
+/// with zeros.
+#[cycle(read)]
+#[inline(never)]
+fn variant_element(
+    alloc: Global,
+    input: &[u8],
+    allowance: u8,
+) -> Result<(Element, &[u8]), ReadFault>
+    requires short { length input.now ≤ input_limit }
+    requires allowed { allowance < deepest }
+    ensures gives { Gives (λ x. (element x.0, x.1.now)) result ((elements_within allowance variant_kind).front input.now) }
+    ensures shorter { IfOk result (λ x. length x.1.now ≤ length input.now) }
+{
+    let (value, rest) = variant_within(alloc, input, allowance)?;
+    Ok((Element::Variant(Box::new(alloc, value)?), rest))
+}
+
+/// A DataValue as an element.
+#[cycle(read)]
+#[inline(never)]
+fn data_element(alloc: Global, input: &[u8], allowance: u8) -> Result<(Element, &[u8]), ReadFault>
+    requires short { length input.now ≤ input_limit }
+    requires allowed { allowance < deepest }
+    ensures gives { Gives (λ x. (element x.0, x.1.now)) result ((elements_within allowance data_kind).front input.now) }
+    ensures shorter { IfOk result (λ x. length x.1.now ≤ length input.now) }
+{
+    let (value, rest) = data_within(alloc, input, allowance)?;
+    Ok((Element::DataValue(Box::new(alloc, value)?), rest))
+}
+
+/// A DiagnosticInfo as an element.
+#[inline(never)]
+fn info_element(alloc: Global, input: &[u8], allowance: u8) -> Result<(Element, &[u8]), ReadFault>
+    requires short { length input.now ≤ input_limit }
+    requires allowed { allowance < deepest }
+    ensures gives { Gives (λ x. (element x.0, x.1.now)) result ((elements_within allowance info_kind).front input.now) }
+    ensures shorter { IfOk result (λ x. length x.1.now ≤ length input.now) }
+{
+    let (value, rest) = DiagnosticInfo::front_within(alloc, input, allowance)?;
+    Ok((Element::DiagnosticInfo(value), rest))
 }
 
 /// The DataValue at the front that is at most so deep, and what follows it.

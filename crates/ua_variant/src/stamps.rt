@@ -22,14 +22,33 @@ pub(crate) struct Stamps {
 
 #[tactic(auto, unfolding(crate::specs::Stamps::stamps))]
 impl Stamps {
-    /// The parts that the mask flags. Its frame is apart from those of the recursion, so that what is 100 deep is read on
-    /// little stack.
-    #[inline(never)]
+    /// The parts that the mask flags; often it flags none.
     pub(crate) fn read_behind(
         alloc: Global,
         mask: u8,
         input: &[u8],
     ) -> Result<(Stamps, &[u8]), ReadFault>
+        requires { length input.now ≤ input_limit }
+        ensures gives { Gives (λ x. (x.0, x.1.now)) result ((stamps.behind mask).front input.now) }
+        ensures shorter { IfOk result (λ x. length x.1.now ≤ length input.now) }
+    {
+        if mask <= 0x01 {
+            let stamps = Stamps {
+                status: None,
+                source_timestamp: None,
+                source_picoseconds: None,
+                server_timestamp: None,
+                server_picoseconds: None,
+            };
+            return Ok((stamps, input));
+        }
+        Stamps::read_some(alloc, mask, input)
+    }
+
+    /// The parts that the mask flags. Its frame is apart from those of the recursion, so that what is 100 deep is read on
+    /// little stack.
+    #[inline(never)]
+    fn read_some(alloc: Global, mask: u8, input: &[u8]) -> Result<(Stamps, &[u8]), ReadFault>
         requires { length input.now ≤ input_limit }
         ensures gives { Gives (λ x. (x.0, x.1.now)) result ((stamps.behind mask).front input.now) }
         ensures shorter { IfOk result (λ x. length x.1.now ≤ length input.now) }

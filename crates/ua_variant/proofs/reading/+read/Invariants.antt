@@ -26,6 +26,12 @@ decreases-each_within l = 8 * l.allowance + 3
 abbrev pub decreases-element_within : goal.decreases-element_within
 decreases-element_within l = 8 * l.allowance + 2
 
+abbrev pub decreases-variant_element : goal.decreases-variant_element
+decreases-variant_element l = 8 * l.allowance + 1
+
+abbrev pub decreases-data_element : goal.decreases-data_element
+decreases-data_element l = 8 * l.allowance + 1
+
 abbrev pub decreases-data_within : goal.decreases-data_within
 decreases-data_within l = 8 * l.allowance
 
