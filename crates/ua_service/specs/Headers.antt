@@ -46,6 +46,10 @@ unfolding response_header
 lawful_response_header = lawful_by _ _ _ (λ v. refl) (λ p. refl)
     (lawful_pair _ _ lawful_date_time (lawful_pair _ _ (lawful_unsigned w32 wide_32) (lawful_pair _ _ lawful_status_code (lawful_pair _ _ lawful_diagnostic (lawful_pair _ _ (lawful_array _ lawful_string) lawful_extension_object)))))
 
+-- the id in namespace 0, without a body
+abbrev pub bodiless : ℕ → ExtensionObject
+bodiless id = record { type_id = two_byte id; body = extensions.None }
+
 -- the null id, without a body
 abbrev pub no_object : ExtensionObject
 no_object = record { type_id = two_byte 0; body = extensions.None }

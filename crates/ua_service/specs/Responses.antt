@@ -15,6 +15,16 @@ IsResponseBody (responses.FindServers m) b = IsBodyOf 425 find_servers_response 
 IsResponseBody (responses.GetEndpoints m) b = IsBodyOf 431 get_endpoints_response m b
 IsResponseBody (responses.Fault m) b = IsBodyOf 397 service_fault m b
 
+-- the response of each kind whose fields are all of the bytes
+abbrev pub find_servers_of : List ℕ → Option Response
+find_servers_of bytes = only find_servers_response.grammar bytes >>= λ m. Some (responses.FindServers m)
+
+abbrev pub get_endpoints_of : List ℕ → Option Response
+get_endpoints_of bytes = only get_endpoints_response.grammar bytes >>= λ m. Some (responses.GetEndpoints m)
+
+abbrev pub fault_of : List ℕ → Option Response
+fault_of bytes = only service_fault.grammar bytes >>= λ m. Some (responses.Fault m)
+
 -- the response that follows an id
 abbrev pub response_fields : NodeId → List ℕ → Option Response
 response_fields id bytes =

@@ -1,13 +1,18 @@
 //! The messages that open, renew and close a secure channel.
 
+ghost use Rattle.std.specs.Prelude.{◌≤◌, length};
+ghost use Rattle.ua_value.specs.Format.{Gives, input_limit};
+ghost use Rattle.ua_value.specs.Whole.{only};
 ghost use Rattle.ua_service.specs.Channel.{open_request, lawful_open_request, open_response, lawful_open_response, close_request, lawful_close_request};
 ghost use Rattle.ua_service.specs.ChannelMessages.{open_message, lawful_open, open_response_message, lawful_open_response_message, close_message, lawful_close};
 
 use crate::body::{Body, id, read_fields_of};
+use crate::brief::{BriefHeader, BriefResponseHeader};
 use crate::encoding::{CLOSE_REQUEST, OPEN_REQUEST, OPEN_RESPONSE};
 use crate::headers::{RequestHeader, ResponseHeader};
+use crate::usual::four_byte_id;
 use std::alloc::Global;
-use ua_value::plumbing::{Fields, Parts, copy_two};
+use ua_value::plumbing::{Fields, Parts, copy_two, read_whole};
 use ua_value::{DateTime, NoMemory, ReadFault, Sink, UaBytes, Wire};
 
 /// A request that a secure channel is opened or its token renewed (OPC 10000-4, 5.6.2).
@@ -250,6 +255,85 @@ impl Wire for CloseRequest {
     ghost laws = { lawful_close_request };
 }
 
+// The messages that the whole input has the fields of. Where the header is spelled as usual, it is made last, so that it
+// is handed on once.
+
+/// What stands behind the header of an open request.
+type OpenRequestRest = (u32, (i32, (i32, (UaBytes, u32))));
+
+/// What stands behind the header of an open response.
+type OpenResponseRest = (u32, (u32, (u32, (DateTime, (u32, UaBytes)))));
+
+#[tactic(auto, unfolding(crate::specs::Channel::open_request))]
+fn whole_open_request(alloc: Global, fields: &[u8]) -> Result<OpenRequest, ReadFault>
+    requires { length fields.now ≤ input_limit }
+    ensures { Gives (λ v. v) result (only open_request.grammar fields.now) }
+{
+    let Some((brief, rest)) = BriefHeader::front(alloc, fields) else {
+        return read_whole(alloc, fields);
+    };
+    match read_whole::<OpenRequestRest>(alloc, rest) {
+        Ok(
+            (
+                client_protocol_version,
+                (request_type, (security_mode, (client_nonce, requested_lifetime))),
+            ),
+        ) => Ok(OpenRequest {
+            header: brief.header(),
+            client_protocol_version,
+            request_type,
+            security_mode,
+            client_nonce,
+            requested_lifetime,
+        }),
+        Err(fault) => Err(fault),
+    }
+}
+
+#[tactic(auto, unfolding(crate::specs::Channel::open_response))]
+fn whole_open_response(alloc: Global, fields: &[u8]) -> Result<OpenResponse, ReadFault>
+    requires { length fields.now ≤ input_limit }
+    ensures { Gives (λ v. v) result (only open_response.grammar fields.now) }
+{
+    let Some((brief, rest)) = BriefResponseHeader::front(alloc, fields) else {
+        return read_whole(alloc, fields);
+    };
+    match read_whole::<OpenResponseRest>(alloc, rest) {
+        Ok(
+            (
+                server_protocol_version,
+                (channel_id, (token_id, (created_at, (revised_lifetime, server_nonce)))),
+            ),
+        ) => Ok(OpenResponse {
+            header: brief.header(),
+            server_protocol_version,
+            channel_id,
+            token_id,
+            created_at,
+            revised_lifetime,
+            server_nonce,
+        }),
+        Err(fault) => Err(fault),
+    }
+}
+
+#[tactic(auto, unfolding(crate::specs::Channel::close_request))]
+fn whole_close_request(alloc: Global, fields: &[u8]) -> Result<CloseRequest, ReadFault>
+    requires { length fields.now ≤ input_limit }
+    ensures { Gives (λ v. v) result (only close_request.grammar fields.now) }
+{
+    let Some((brief, rest)) = BriefHeader::front(alloc, fields) else {
+        return read_whole(alloc, fields);
+    };
+    if rest.is_empty() {
+        Ok(CloseRequest {
+            header: brief.header(),
+        })
+    } else {
+        Err(ReadFault::Refused)
+    }
+}
+
 #[tactic(auto, unfolding(crate::specs::Message::message))]
 impl Body for OpenRequest {
     ghost message = { open_message };
@@ -263,6 +347,11 @@ impl Body for OpenRequest {
     }
 
     fn parse_body(alloc: Global, input: &[u8]) -> Result<OpenRequest, ReadFault> {
+        if let Some((number, fields)) = four_byte_id(input) {
+            if number == OPEN_REQUEST {
+                return whole_open_request(alloc, fields);
+            }
+        }
         read_fields_of(alloc, OPEN_REQUEST, input)
     }
 
@@ -282,6 +371,11 @@ impl Body for OpenResponse {
     }
 
     fn parse_body(alloc: Global, input: &[u8]) -> Result<OpenResponse, ReadFault> {
+        if let Some((number, fields)) = four_byte_id(input) {
+            if number == OPEN_RESPONSE {
+                return whole_open_response(alloc, fields);
+            }
+        }
         read_fields_of(alloc, OPEN_RESPONSE, input)
     }
 
@@ -301,6 +395,11 @@ impl Body for CloseRequest {
     }
 
     fn parse_body(alloc: Global, input: &[u8]) -> Result<CloseRequest, ReadFault> {
+        if let Some((number, fields)) = four_byte_id(input) {
+            if number == CLOSE_REQUEST {
+                return whole_close_request(alloc, fields);
+            }
+        }
         read_fields_of(alloc, CLOSE_REQUEST, input)
     }
 

@@ -1,8 +1,10 @@
 //! What stands before the fields of every request and of every response.
 
-ghost use Rattle.std.specs.Prelude.{◌≡◌};
+ghost use Rattle.std.specs.Prelude.{◌≡◌, ◌≤◌, length, IfOk};
+ghost use Rattle.ua_value.specs.Format.{Gives, input_limit};
 ghost use Rattle.ua_service.specs.Headers.{request_header, request_header_at, lawful_request_header, response_header, lawful_response_header, response_header_at, service_fault, lawful_service_fault};
 
+use crate::brief::{BriefHeader, BriefResponseHeader};
 use std::alloc::Global;
 use ua_value::plumbing::{Fields, Parts, copy_three};
 use ua_value::{Array, DateTime, NoMemory, NodeId, ReadFault, Sink, StatusCode, UaString, Wire};
@@ -88,41 +90,55 @@ impl Wire for RequestHeader {
     }
 
     fn read_front(alloc: Global, input: &[u8]) -> Result<(RequestHeader, &[u8]), ReadFault> {
-        match RequestHeaderFields::read_fields(alloc, input) {
-            Ok(
-                (
-                    (
-                        authentication_token,
-                        (
-                            timestamp,
-                            (
-                                request_handle,
-                                (
-                                    return_diagnostics,
-                                    (audit_entry_id, (timeout_hint, additional_header)),
-                                ),
-                            ),
-                        ),
-                    ),
-                    rest,
-                ),
-            ) => Ok((
-                RequestHeader {
-                    authentication_token,
-                    timestamp,
-                    request_handle,
-                    return_diagnostics,
-                    audit_entry_id,
-                    timeout_hint,
-                    additional_header,
-                },
-                rest,
-            )),
-            Err(fault) => Err(fault),
+        match BriefHeader::front(alloc, input) {
+            Some((brief, rest)) => Ok((brief.header(), rest)),
+            None => any_request_header(alloc, input),
         }
     }
 
     ghost laws = { lawful_request_header };
+}
+
+/// The header at the front in any spelling.
+#[tactic(auto, unfolding(crate::specs::Headers::request_header))]
+#[inline(never)]
+fn any_request_header(alloc: Global, input: &[u8]) -> Result<(RequestHeader, &[u8]), ReadFault>
+    requires { length input.now ≤ input_limit }
+    ensures gives { Gives (λ x. (x.0, x.1.now)) result (request_header.grammar.front input.now) }
+    ensures shorter { IfOk result (λ x. length x.1.now ≤ length input.now) }
+{
+    match RequestHeaderFields::read_fields(alloc, input) {
+        Ok(
+            (
+                (
+                    authentication_token,
+                    (
+                        timestamp,
+                        (
+                            request_handle,
+                            (
+                                return_diagnostics,
+                                (audit_entry_id, (timeout_hint, additional_header)),
+                            ),
+                        ),
+                    ),
+                ),
+                rest,
+            ),
+        ) => Ok((
+            RequestHeader {
+                authentication_token,
+                timestamp,
+                request_handle,
+                return_diagnostics,
+                audit_entry_id,
+                timeout_hint,
+                additional_header,
+            },
+            rest,
+        )),
+        Err(fault) => Err(fault),
+    }
 }
 
 /// What stands before the fields of every response (OPC 10000-4, 7.34).
@@ -204,37 +220,48 @@ impl Wire for ResponseHeader {
     }
 
     fn read_front(alloc: Global, input: &[u8]) -> Result<(ResponseHeader, &[u8]), ReadFault> {
-        match ResponseHeaderFields::read_fields(alloc, input) {
-            Ok(
-                (
-                    (
-                        timestamp,
-                        (
-                            request_handle,
-                            (
-                                service_result,
-                                (service_diagnostics, (string_table, additional_header)),
-                            ),
-                        ),
-                    ),
-                    rest,
-                ),
-            ) => Ok((
-                ResponseHeader {
-                    timestamp,
-                    request_handle,
-                    service_result,
-                    service_diagnostics,
-                    string_table,
-                    additional_header,
-                },
-                rest,
-            )),
-            Err(fault) => Err(fault),
+        match BriefResponseHeader::front(alloc, input) {
+            Some((brief, rest)) => Ok((brief.header(), rest)),
+            None => any_response_header(alloc, input),
         }
     }
 
     ghost laws = { lawful_response_header };
+}
+
+/// The header at the front in any spelling.
+#[tactic(auto, unfolding(crate::specs::Headers::response_header))]
+#[inline(never)]
+fn any_response_header(alloc: Global, input: &[u8]) -> Result<(ResponseHeader, &[u8]), ReadFault>
+    requires { length input.now ≤ input_limit }
+    ensures gives { Gives (λ x. (x.0, x.1.now)) result (response_header.grammar.front input.now) }
+    ensures shorter { IfOk result (λ x. length x.1.now ≤ length input.now) }
+{
+    match ResponseHeaderFields::read_fields(alloc, input) {
+        Ok(
+            (
+                (
+                    timestamp,
+                    (
+                        request_handle,
+                        (service_result, (service_diagnostics, (string_table, additional_header))),
+                    ),
+                ),
+                rest,
+            ),
+        ) => Ok((
+            ResponseHeader {
+                timestamp,
+                request_handle,
+                service_result,
+                service_diagnostics,
+                string_table,
+                additional_header,
+            },
+            rest,
+        )),
+        Err(fault) => Err(fault),
+    }
 }
 
 /// The header of a request (OPC 10000-4, 7.33): the moment, the client's number for the request, and nothing else. It

@@ -3,17 +3,20 @@
 
 mod application;
 mod body;
+mod brief;
 mod channel;
 mod discovery;
 pub mod encoding;
 mod endpoint;
 mod headers;
+mod heads;
 pub mod laws;
 mod named;
 mod other;
 mod read;
 mod request;
 mod response;
+mod usual;
 
 pub use application::ApplicationDescription;
 pub use body::{Body, body_len, body_of, write_body};
@@ -23,6 +26,7 @@ pub use discovery::{
 };
 pub use endpoint::{EndpointDescription, UserTokenPolicy};
 pub use headers::{RequestHeader, ResponseHeader, ServiceFault, request_header, response_header};
+pub use heads::{request_head, response_head};
 pub use named::{ApplicationType, RequestType, SecurityMode, TokenType};
 pub use other::OtherRequest;
 pub use read::{read_close, read_open, read_open_response, read_request, read_response};

@@ -1,0 +1,7 @@
+use Rattle.ua_service.proofs.Beginnings.{response_head_spelled}
+use Rattle.ua_service.proofs.heads.response_head_at.Goals as goal
+
+pub returns : goal.returns
+returns c now moment =
+    response_head_spelled c.args.id now c.args.handle c.args.status c.to_le_bytes.result c.args.moment c.to_le_bytes-2.result c.to_le_bytes-3.result
+    c.requires.wide c.requires.narrow c.to_le_bytes.ensures moment c.to_le_bytes-2.ensures c.to_le_bytes-3.ensures
