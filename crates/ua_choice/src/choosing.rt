@@ -16,7 +16,7 @@ pub(crate) fn is_same(a: &UaString, b: &UaString) -> bool
     }
 }
 
-fn is_one_of(text: &UaString, texts: &[UaString]) -> bool
+pub(crate) fn is_one_of(text: &UaString, texts: &[UaString]) -> bool
     ensures { result ≡ is_among text.now texts.now }
 {
     for other in texts {
@@ -31,25 +31,9 @@ fn is_one_of(text: &UaString, texts: &[UaString]) -> bool
 pub fn asks_for(filter: &Array<UaString>, text: &UaString) -> bool
     ensures { result ≡ is_asked filter.now text.now }
 {
-    still_asks_for(filter, text, None)
-}
-
-/// Whether a filter asks for what has this text, given the verdict over another one, if there is one: where both are the
-/// same, the filter is not searched again. So a run of equal texts costs one search, however long the filter is.
-pub fn still_asks_for(
-    filter: &Array<UaString>,
-    text: &UaString,
-    judged: Option<(&UaString, bool)>,
-) -> bool
-    requires { IfSome judged (λ j. j.1 ≡ is_asked filter.now j.0.now) }
-    ensures { result ≡ is_asked filter.now text.now }
-{
     match filter.get() {
         None => true,
         Some([]) => true,
-        Some(texts) => match judged {
-            Some((other, asked)) if is_same(text, other) => asked,
-            _ => is_one_of(text, texts),
-        },
+        Some(texts) => is_one_of(text, texts),
     }
 }

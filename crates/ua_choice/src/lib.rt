@@ -4,6 +4,8 @@
 
 mod choosing;
 mod names;
+mod verdicts;
 
-pub use choosing::{asks_for, still_asks_for};
+pub use choosing::asks_for;
 pub use names::Names;
+pub use verdicts::Verdicts;

@@ -1,6 +1,6 @@
 //! Messages put together from their parts.
 
-ghost use Rattle.std.specs.Prelude.{◌≡◌, ◌≤◌, length, false, is_ok, Some, None, IfOk, OnOk, IfErr, if◌then◌else◌};
+ghost use Rattle.std.specs.Prelude.{◌≡◌, ◌≤◌, length, true, false, is_ok, is_some, Some, None, IfOk, OnOk, IfErr, IfSome, if◌then◌else◌};
 ghost use Rattle.ua_frame.specs.declared.kind.Kind.TheVariants.{Message};
 ghost use Rattle.ua_chunk.specs.Half.{id_of, body_of};
 ghost use Rattle.ua_chunk.specs.Assembly.{gathered_none, gathered_after, half_of, part_fault, added_by, is_whole};
@@ -76,6 +76,21 @@ impl Assembly {
             whole: false,
             body,
         })
+    }
+
+    /// The message, where the chunk is the whole of it: no part came before it, it is the last one, and it is within the
+    /// limits. So it can be read where it stands: it need not be added. OPC 10000-6, 6.7.2.2.
+    pub fn whole_in<'a>(&self, chunk: &'a Chunk) -> Option<&'a [u8]>
+        ensures alone { IfSome result (λ body. (self.now.half ≡ None) × (chunk.now.flag ≡ 70) × (body.now ≡ chunk.now.chunk.body)) }
+        ensures passed { is_some result ≡ true → part_fault self.now chunk.now ≡ None }
+    {
+        let bytes = chunk.body();
+        let fits = self.max_chunks > 0 && bytes.len() <= self.max_message as usize;
+        if self.id.is_none() && chunk.flag() == b'F' && fits {
+            Some(bytes)
+        } else {
+            None
+        }
     }
 
     /// Adds the part that a MSG chunk carries: `C` puts it behind the others, `F` makes the message whole, and `A`

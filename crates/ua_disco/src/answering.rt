@@ -7,7 +7,7 @@ ghost use Rattle.ua_disco.specs.Answers.{answer_of, servers_found, endpoints_fou
 use crate::arrays::array_of;
 use crate::settings::Settings;
 use std::alloc::Global;
-use ua_choice::{asks_for, still_asks_for};
+use ua_choice::{Verdicts, asks_for};
 use ua_service::{
     ApplicationDescription, EndpointDescription, FindServersRequest, FindServersResponse,
     GetEndpointsRequest, GetEndpointsResponse, OtherRequest, Request, Response, ResponseHeader,
@@ -16,7 +16,7 @@ use ua_service::{
 use ua_value::NoMemory;
 
 /// The service is not one that the server offers (OPC 10000-4, 7.39).
-const BAD_SERVICE_UNSUPPORTED: u32 = 0x800B_0000;
+pub(crate) const BAD_SERVICE_UNSUPPORTED: u32 = 0x800B_0000;
 
 /// The applications that the request asks for.
 #[tactic(auto, unfolding(crate::specs::Answers::servers_found))]
@@ -39,10 +39,10 @@ fn servers(
 }
 
 /// The endpoints that the request asks for, in the order of the settings.
-fn endpoints(
+fn endpoints<'a>(
     alloc: Global,
-    settings: &Settings,
-    request: &GetEndpointsRequest,
+    settings: &'a Settings,
+    request: &'a GetEndpointsRequest,
 ) -> Result<Vec<EndpointDescription>, NoMemory>
     ensures found { IfOk result (λ v. v.items ≡ endpoints_found settings.now request.now) }
     ensures within { IsConfiguration settings.now }
@@ -51,11 +51,9 @@ fn endpoints(
     let application = settings.application();
     let name = application.names.in_language(&request.locale_ids);
     let offered = settings.endpoints();
-    let mut judged = None;
+    let mut verdicts = Verdicts::new(&request.profile_uris);
     for endpoint in offered {
-        let asked = still_asks_for(&request.profile_uris, &endpoint.transport, judged);
-        judged = Some((&endpoint.transport, asked));
-        if asked {
+        if verdicts.asks_for(&endpoint.transport) {
             found.push(endpoint.describe(application, name)?)?;
         }
     }
@@ -93,7 +91,7 @@ fn get_endpoints(
 }
 
 /// The header of the answer to a request for a service that the server does not offer.
-pub(crate) fn fault_header(request: &OtherRequest, now: i64) -> ResponseHeader
+fn fault_header(request: &OtherRequest, now: i64) -> ResponseHeader
     ensures { result ≡ (unsupported request.now.header now).header }
 {
     let handle = request.header().request_handle;

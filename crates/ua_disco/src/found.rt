@@ -8,7 +8,7 @@ ghost use Rattle.ua_disco.specs.Answers.{described, servers_found, endpoints_fou
 
 use crate::application::NamedApplication;
 use crate::settings::Settings;
-use ua_choice::{asks_for, still_asks_for};
+use ua_choice::{Verdicts, asks_for};
 use ua_service::{FindServersRequest, GetEndpointsRequest};
 use ua_value::plumbing::Parts;
 use ua_value::{NoMemory, Sink};
@@ -31,17 +31,15 @@ pub(crate) fn asked_server<'a>(
 }
 
 /// How many endpoints the request asks for.
-pub(crate) fn endpoint_count(settings: &Settings, request: &GetEndpointsRequest) -> usize
+pub(crate) fn endpoint_count<'a>(settings: &'a Settings, request: &'a GetEndpointsRequest) -> usize
     ensures count { result ≡ length (endpoints_found settings.now request.now) }
     ensures few { result ≤ 65535 }
 {
     let mut count = 0;
-    let mut judged = None;
+    let mut verdicts = Verdicts::new(&request.profile_uris);
     let offered = settings.endpoints();
     for endpoint in offered {
-        let asked = still_asks_for(&request.profile_uris, &endpoint.transport, judged);
-        judged = Some((&endpoint.transport, asked));
-        if asked {
+        if verdicts.asks_for(&endpoint.transport) {
             count += 1;
         }
     }
@@ -49,7 +47,7 @@ pub(crate) fn endpoint_count(settings: &Settings, request: &GetEndpointsRequest)
 }
 
 /// The length of what the endpoints that the request asks for are written as, in bytes.
-pub(crate) fn endpoints_len(settings: &Settings, request: &GetEndpointsRequest) -> u64
+pub(crate) fn endpoints_len<'a>(settings: &'a Settings, request: &'a GetEndpointsRequest) -> u64
     ensures length { result ≡ length (flat_map endpoint_description.canon (endpoints_found settings.now request.now)) }
     ensures few { result ≤ 1152921504606846976 }
 {
@@ -57,12 +55,10 @@ pub(crate) fn endpoints_len(settings: &Settings, request: &GetEndpointsRequest) 
     let name = application.names.in_language(&request.locale_ids);
     let server = NamedApplication { application, name };
     let mut total = 0;
-    let mut judged = None;
+    let mut verdicts = Verdicts::new(&request.profile_uris);
     let offered = settings.endpoints();
     for endpoint in offered {
-        let asked = still_asks_for(&request.profile_uris, &endpoint.transport, judged);
-        judged = Some((&endpoint.transport, asked));
-        if asked {
+        if verdicts.asks_for(&endpoint.transport) {
             total += endpoint.len(&server);
         }
     }
@@ -74,9 +70,9 @@ pub(crate) fn endpoints_len(settings: &Settings, request: &GetEndpointsRequest) 
 /// # Errors
 ///
 /// `NoMemory` where a growth was refused; a beginning of them may have been put.
-fn put_endpoints<S: Sink>(
-    settings: &Settings,
-    request: &GetEndpointsRequest,
+fn put_endpoints<'a, S: Sink>(
+    settings: &'a Settings,
+    request: &'a GetEndpointsRequest,
     out: &mut S,
 ) -> Result<(), NoMemory>
     ensures ok { OnOk result (S.contents out.new ≡ S.contents out.old ++ flat_map endpoint_description.canon (endpoints_found settings.now request.now)) }
@@ -85,12 +81,10 @@ fn put_endpoints<S: Sink>(
     let application = settings.application();
     let name = application.names.in_language(&request.locale_ids);
     let server = NamedApplication { application, name };
-    let mut judged = None;
+    let mut verdicts = Verdicts::new(&request.profile_uris);
     let offered = settings.endpoints();
     for endpoint in offered {
-        let asked = still_asks_for(&request.profile_uris, &endpoint.transport, judged);
-        judged = Some((&endpoint.transport, asked));
-        if asked {
+        if verdicts.asks_for(&endpoint.transport) {
             endpoint.put(&server, out)?;
         }
     }

@@ -1,6 +1,6 @@
 //! An answer that is put from the settings and the request, with no response made in between.
 
-ghost use Rattle.std.specs.Prelude.{◌≡◌, ◌≤◌, ◌+◌, ◌++◌, length, OnOk, OnErr};
+ghost use Rattle.std.specs.Prelude.{◌≡◌, ◌≤◌, ◌<◌, ◌+◌, ◌++◌, length, OnOk, OnErr};
 ghost use Rattle.ua_value.specs.Format.{AppendsPart};
 ghost use Rattle.ua_value.specs.Node.{node_id};
 ghost use Rattle.ua_service.specs.Message.{id_of};
@@ -9,17 +9,17 @@ ghost use Rattle.ua_service.specs.Responses.{canon_response};
 ghost use Rattle.ua_service.specs.declared.response.Response.TheVariants as responses;
 ghost use Rattle.ua_disco.specs.Answers.{answer_of, find_servers_answer, get_endpoints_answer, unsupported};
 
-use crate::answering::fault_header;
+use crate::answering::BAD_SERVICE_UNSUPPORTED;
 use crate::found::{FoundEndpoints, asked_server, endpoint_count, endpoints_len};
 use crate::settings::Settings;
+use crate::then::Then;
 use std::marker::Model;
 use ua_service::encoding::{FIND_SERVERS_RESPONSE, GET_ENDPOINTS_RESPONSE, SERVICE_FAULT};
 use ua_service::{
-    FindServersRequest, GetEndpointsRequest, OtherRequest, Request, RequestHeader, ResponseHeader,
-    response_header,
+    FindServersRequest, GetEndpointsRequest, OtherRequest, Request, RequestHeader, response_head,
 };
-use ua_value::plumbing::{Parts, let_go};
-use ua_value::{Emit, NoMemory, NodeId, Sink, Wire};
+use ua_value::plumbing::{Parts, Raw};
+use ua_value::{Emit, NoMemory, Sink};
 
 /// What a server with these settings says to a request at a moment, lent: it is put from the settings and the request,
 /// with no response made and no text copied in between (OPC 10000-4, 5.5). Contracts see it as the canonical body of the
@@ -41,8 +41,8 @@ impl<'a> Model for LentAnswer<'a> {
     ghost view = { λ a. canon_response (answer_of a.settings.now a.request.now a.now) };
 }
 
-/// What a body begins with: the id of its encoding and the header of a response, which is made where it is measured or
-/// put, and held nowhere else.
+/// What a body begins with: the id of its encoding, and a header that says when, for which request and how it went, and
+/// nothing else. It is made where it is measured or put, and held nowhere else.
 #[derive(Clone, Copy)]
 struct Head {
     id: u32,
@@ -67,19 +67,23 @@ impl Head {
         }
     }
 
-    fn header(self) -> ResponseHeader
-        ensures { result ≡ response_header_at self.moment self.handle self.status }
+    /// Its bytes: an id of four bytes, and a header without diagnostics, texts and an additional header.
+    fn bytes(self) -> [u8; 28]
+        requires wide { 256 ≤ self.id }
+        requires narrow { self.id < 65536 }
+        ensures { result ≡ node_id.canon (id_of self.id) ++ response_header.canon (response_header_at self.moment self.handle self.status) }
     {
-        response_header(self.moment, self.handle, self.status)
+        response_head(self.id, self.moment, self.handle, self.status)
     }
 
-    /// Its number of bytes.
+    /// The number of its bytes.
     fn len(self) -> u64
+        requires wide { 256 ≤ self.id }
+        requires narrow { self.id < 65536 }
         ensures length { result ≡ length (node_id.canon (id_of self.id)) + length (response_header.canon (response_header_at self.moment self.handle self.status)) }
-        ensures few { result ≤ 1152921725797665156 }
+        ensures few { result ≡ 28 }
     {
-        let header = self.header();
-        NodeId::numeric(0, self.id).len() + header.len()
+        self.bytes().len() as u64
     }
 
     /// Puts it and what is behind it.
@@ -88,13 +92,14 @@ impl Head {
     ///
     /// `NoMemory` where a growth was refused; a beginning of it may have been put.
     fn put_before<P: Parts + Drop, S: Sink>(self, behind: P, sink: &mut S) -> Result<(), NoMemory>
+        requires wide { 256 ≤ self.id }
+        requires narrow { self.id < 65536 }
         ensures ok { OnOk result (S.contents sink.new ≡ S.contents sink.old ++ (node_id.canon (id_of self.id) ++ (response_header.canon (response_header_at self.moment self.handle self.status) ++ P.spelling behind))) }
         ensures err { OnErr result (AppendsPart (S.contents sink.old) (S.contents sink.new) (node_id.canon (id_of self.id) ++ (response_header.canon (response_header_at self.moment self.handle self.status) ++ P.spelling behind))) }
     {
-        let header = self.header();
-        let put = (&NodeId::numeric(0, self.id), (&header, behind)).emit_parts(sink);
-        let_go(header);
-        put
+        let bytes = self.bytes();
+        let first = Raw { bytes: &bytes };
+        Then { first, behind }.emit_parts(sink)
     }
 }
 
@@ -153,13 +158,27 @@ fn put_endpoints_body<S: Sink>(
     head.put_before((&count, FoundEndpoints { settings, request }), sink)
 }
 
+/// The whole answer to a request for a service that the server does not offer.
+fn fault_head(request: &OtherRequest, now: i64) -> Head
+    ensures id { result.id ≡ 397 }
+    ensures moment { result.moment ≡ now }
+    ensures handle { result.handle ≡ request.now.header.request_handle }
+    ensures status { result.status ≡ 0x800B0000 }
+{
+    Head {
+        id: SERVICE_FAULT,
+        moment: now,
+        handle: request.header().request_handle,
+        status: BAD_SERVICE_UNSUPPORTED,
+    }
+}
+
 /// The number of bytes of the answer to a request for a service that the server does not offer.
 #[tactic(auto, unfolding(ua_service::specs::Headers::service_fault))]
 fn fault_body_len(request: &OtherRequest, now: i64) -> u64
     ensures { result ≡ length (canon_response (responses.Fault (unsupported request.now.header now))) }
 {
-    let header = fault_header(request, now);
-    NodeId::numeric(0, SERVICE_FAULT).len() + header.len()
+    fault_head(request, now).len()
 }
 
 /// Puts the answer to a request for a service that the server does not offer.
@@ -168,10 +187,7 @@ fn put_fault_body<S: Sink>(request: &OtherRequest, now: i64, sink: &mut S) -> Re
     ensures ok { OnOk result (S.contents sink.new ≡ S.contents sink.old ++ canon_response (responses.Fault (unsupported request.now.header now))) }
     ensures err { OnErr result (AppendsPart (S.contents sink.old) (S.contents sink.new) (canon_response (responses.Fault (unsupported request.now.header now)))) }
 {
-    let header = fault_header(request, now);
-    let put = (&NodeId::numeric(0, SERVICE_FAULT), &header).emit_parts(sink);
-    let_go(header);
-    put
+    sink.put(&fault_head(request, now).bytes())
 }
 
 /// What a server with these settings says to a request at the moment `now`, in ticks of 100 ns since 1601-01-01 UTC: the

@@ -3,7 +3,6 @@
 use crate::answering::{ACKNOWLEDGED, HELLO};
 use crate::runs::{Page, are_written};
 use std::net::Net;
-use std::process::Abort;
 use std::rt::{Clock, Files};
 use ua_command::run::run;
 
@@ -25,38 +24,28 @@ fn ends_so_or_no_memory<R: Files + Net + Clock + AllocGlobal>(
     }
 }
 
-/// Runs the words to their full answer, or to want of memory with nothing printed.
-fn expect_or_no_memory<R: Files + Net + Clock + AllocGlobal + Abort>(
-    rt: &R,
-    words: &[&str],
-    input: &str,
-    status: u8,
-    output: &str,
-    errors: &str,
-) {
-    assert!(rt; ends_so_or_no_memory(rt, words, input, status, output, errors));
-}
-
 #[test]
 fn answers_or_no_memory(rt: HostRuntime) {
-    expect_or_no_memory(&rt, &["answer", "default"], HELLO, 0, ACKNOWLEDGED, "");
+    assert!(rt; ends_so_or_no_memory(&rt, &["answer", "default"], HELLO, 0, ACKNOWLEDGED, ""));
 }
 
 #[test]
 fn stops_at_a_bad_line_or_no_memory(rt: HostRuntime) {
-    expect_or_no_memory(&rt, &["answer", "default"], "@7\n48\n4g", 1, "", "line 3\n");
+    assert!(rt; ends_so_or_no_memory(&rt, &["answer", "default"], "@7\n48\n4g", 1, "", "line 3\n"));
 }
 
 #[test]
 fn prints_a_node_id_or_no_memory(rt: HostRuntime) {
     let output = "used 7 of 7\ncanon 03000000000000\ntext s=\"\"\n";
-    expect_or_no_memory(
-        &rt,
-        &["value", "NodeId", "03000000000000"],
-        "",
-        0,
-        output,
-        "",
+    assert!(rt;
+        ends_so_or_no_memory(
+            &rt,
+            &["value", "NodeId", "03000000000000"],
+            "",
+            0,
+            output,
+            "",
+        )
     );
 }
 
@@ -65,17 +54,17 @@ fn prints_a_guid_or_no_memory(rt: HostRuntime) {
     let output =
         "used 16 of 16\ncanon 912b967275fae64a8d28b404dc7daf63\ntext 72962b91-fa75-4ae6-8d28-b404dc7daf63\n";
     let words = ["value", "Guid", "912B967275FAE64A8D28B404DC7DAF63"];
-    expect_or_no_memory(&rt, &words, "", 0, output, "");
+    assert!(rt; ends_so_or_no_memory(&rt, &words, "", 0, output, ""));
 }
 
 #[test]
 fn tells_an_absent_file_or_no_memory(rt: HostRuntime) {
-    expect_or_no_memory(&rt, &["answer", "absent.toml"], "", 3, "", "file\n");
+    assert!(rt; ends_so_or_no_memory(&rt, &["answer", "absent.toml"], "", 3, "", "file\n"));
 }
 
 #[test]
 fn refuses_words_or_no_memory(rt: HostRuntime) {
-    expect_or_no_memory(&rt, &["value", "Boolean", "0"], "", 2, "", "words\n");
+    assert!(rt; ends_so_or_no_memory(&rt, &["value", "Boolean", "0"], "", 2, "", "words\n"));
 }
 
 /// Whether the answer stands in memory, or nothing does, since memory ran out for it or for the run.

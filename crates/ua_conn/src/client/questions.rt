@@ -1,6 +1,8 @@
 //! What a client says for itself.
 
-ghost use Rattle.std.specs.Prelude.{◌≡◌, ◌≤◌, ◌<◌, ◌^◌, ◌++◌, true, pos, is_ok, length, if◌then◌else◌, IfOk};
+ghost use Rattle.std.specs.Prelude.{◌≡◌, ◌≤◌, ◌<◌, ◌^◌, ◌++◌, true, is_ok, length, if◌then◌else◌};
+ghost use Rattle.std.specs.Int.{w32, to_le_bytes};
+ghost use Rattle.ua_value.specs.Text.{null};
 ghost use Rattle.ua_chunk.specs.Half.{body_of as body_bytes};
 ghost use Rattle.ua_chunk.specs.Numbers.{number_after};
 ghost use Rattle.ua_chunk.specs.Written.{open_frame, close_frame};
@@ -10,14 +12,14 @@ ghost use Rattle.ua_conn.specs.client.Questions.{open_asked_body, close_asked_bo
 ghost use Rattle.ua_conn.specs.client.Telling.{type_of, numbered_to, waiting_to, waits_open};
 
 use crate::client::connection::Connection;
-use std::alloc::Global;
 use ua_chunk::{write_close, write_open};
 use ua_frame::VERSION;
-use ua_service::{CloseRequest, OpenRequest, body_of, request_header};
-use ua_value::{DateTime, NoMemory, UaBytes};
+use ua_service::encoding::{CLOSE_REQUEST, OPEN_REQUEST};
+use ua_service::request_head;
+use ua_value::NoMemory;
 
 /// The mode without security.
-const NO_SECURITY: i32 = 1;
+const NO_SECURITY: u8 = 1;
 
 /// What an open request asks for. OPC 10000-4, 5.6.2.2, requestType.
 #[derive(Clone, Copy)]
@@ -29,8 +31,8 @@ pub(crate) enum Asks {
 }
 
 /// The number of a request's type.
-fn request_type(asks: Asks) -> i32
-    ensures { result ≡ pos (type_of asks) }
+fn request_type(asks: Asks) -> u8
+    ensures { result ≡ type_of asks }
 {
     match asks {
         Asks::Issue => 0,
@@ -38,39 +40,57 @@ fn request_type(asks: Asks) -> i32
     }
 }
 
-/// The body of an open request. OPC 10000-4, 5.6.2.
-#[tactic(auto, unfolding(crate::specs::client::Questions::open_asked_body))]
-fn open_asked_body(
-    alloc: Global,
-    now: u64,
-    id: u32,
-    asks: Asks,
-    lifetime: u32,
-) -> Result<Vec<u8>, NoMemory>
-    requires { now < 2 ^ 63 }
-    ensures { IfOk result (λ body. body.items ≡ open_asked_body now id (type_of asks) lifetime) }
+/// What an open request has behind its header: the version, the type, the mode without security, no nonce and the
+/// lifetime.
+fn open_asked_fields(asks: Asks, lifetime: u32) -> [u8; 20]
+    ensures { result ≡ to_le_bytes w32 0 ++ to_le_bytes w32 (type_of asks) ++ to_le_bytes w32 1 ++ null ++ to_le_bytes w32 lifetime }
 {
-    let request = OpenRequest {
-        header: request_header(DateTime(now as i64), id),
-        client_protocol_version: VERSION,
-        request_type: request_type(asks),
-        security_mode: NO_SECURITY,
-        client_nonce: UaBytes::null(),
-        requested_lifetime: lifetime,
-    };
-    body_of(alloc, request)
+    let [v0, v1, v2, v3] = VERSION.to_le_bytes();
+    let [l0, l1, l2, l3] = lifetime.to_le_bytes();
+    [
+        v0,
+        v1,
+        v2,
+        v3,
+        request_type(asks),
+        0,
+        0,
+        0,
+        NO_SECURITY,
+        0,
+        0,
+        0,
+        255,
+        255,
+        255,
+        255,
+        l0,
+        l1,
+        l2,
+        l3,
+    ]
 }
 
-/// The body of a close request. OPC 10000-4, 5.6.3.
-#[tactic(auto, unfolding(crate::specs::client::Questions::close_asked_body))]
-fn close_asked_body(alloc: Global, now: u64, id: u32) -> Result<Vec<u8>, NoMemory>
+/// The body of an open request, whose length never changes. OPC 10000-4, 5.6.2.
+#[tactic(auto, unfolding(crate::specs::client::Questions::open_asked_body, ua_service::specs::Message::message, ua_service::specs::Channel::open_request, ua_value::specs::Number::unsigned, ua_value::specs::Number::signed, ua_value::specs::Text::bytes_of))]
+fn open_asked_body(now: u64, id: u32, asks: Asks, lifetime: u32) -> [u8; 53]
     requires { now < 2 ^ 63 }
-    ensures { IfOk result (λ body. body.items ≡ close_asked_body now id) }
+    ensures { result ≡ open_asked_body now id (type_of asks) lifetime }
 {
-    let request = CloseRequest {
-        header: request_header(DateTime(now as i64), id),
-    };
-    body_of(alloc, request)
+    let mut body = [0; 53];
+    let (head, fields) = body.split_at_mut(33);
+    head.copy_from_slice(&request_head(OPEN_REQUEST, now as i64, id));
+    fields.copy_from_slice(&open_asked_fields(asks, lifetime));
+    body
+}
+
+/// The body of a close request, which is a header alone. OPC 10000-4, 5.6.3.
+#[tactic(auto, unfolding(crate::specs::client::Questions::close_asked_body, ua_service::specs::Message::message, ua_service::specs::Channel::close_request))]
+fn close_asked_body(now: u64, id: u32) -> [u8; 33]
+    requires { now < 2 ^ 63 }
+    ensures { result ≡ close_asked_body now id }
+{
+    request_head(CLOSE_REQUEST, now as i64, id)
 }
 
 impl Connection {
@@ -88,7 +108,7 @@ impl Connection {
         ensures said { out.new.items ≡ (if is_ok result then out.old.items ++ open_frame channel self.old.next id (open_asked_body now id (type_of asks) self.old.config.lifetime) else out.old.items) }
         ensures after { self.new ≡ (if is_ok result then numbered_to self.old (number_after self.old.next 1) else self.old) }
     {
-        let body = open_asked_body(self.alloc, now, id, asks, self.config.lifetime)?;
+        let body = open_asked_body(now, id, asks, self.config.lifetime);
         write_open(channel, id, &body, &mut self.next, out)
     }
 
@@ -113,7 +133,7 @@ impl Connection {
         ensures after { self.new ≡ (if is_ok result then numbered_to self.old (number_after self.old.next 1) else self.old) }
         ensures half { length (body_bytes self.new.waits.known.half) ≤ self.new.config.max_message }
     {
-        let body = close_asked_body(self.alloc, now, id)?;
+        let body = close_asked_body(now, id);
         let channel = self.channel.id();
         let token = self.newest_token();
         write_close(channel, token, id, &body, &mut self.next, out)

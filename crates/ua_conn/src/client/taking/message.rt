@@ -70,7 +70,8 @@ fn read_answer(alloc: Global, body: &[u8], request: &Request) -> Result<Response
     Ok(response)
 }
 
-/// Puts a part to those before it. The result is what came of the request, where the message ends.
+/// Puts a part to those before it. The result is what came of the request, where the message ends: one that comes in one
+/// part is read where it stands.
 fn gather(
     alloc: Global,
     half: &mut Assembly,
@@ -87,6 +88,10 @@ fn gather(
     ensures max_chunks { half.new.max_chunks ≡ half.old.max_chunks }
     ensures bytes { length (body_of half.new.half) ≤ half.new.max_message }
 {
+    if let Some(body) = half.whole_in(chunk) {
+        let response = read_answer(alloc, body, request)?;
+        return Ok(Some(AnswerResult::Response(response)));
+    }
     match half.add(chunk)? {
         Added::More => Ok(None),
         Added::Aborted { status } => Ok(Some(AnswerResult::Aborted(status))),

@@ -1,7 +1,9 @@
 //! The parts of requests, and what is said to a whole one.
 
-ghost use Rattle.std.specs.Prelude.{◌≡◌, ◌<◌, ◌≤◌, ◌^◌, ◌++◌, ◌∷◌, [], length, List, ℕ, false, is_ok, if◌then◌else◌};
+ghost use Rattle.std.specs.Prelude.{◌≡◌, ◌<◌, ◌≤◌, ◌^◌, ◌++◌, ◌∷◌, [], length, List, ℕ, false, is_none, is_ok, if◌then◌else◌};
+ghost use Rattle.ua_value.specs.Format.{input_limit};
 ghost use Rattle.ua_frame.specs.declared.kind.Kind.TheVariants as kinds;
+ghost use Rattle.ua_service.specs.Requests.{request_of};
 ghost use Rattle.ua_chunk.specs.Half.{body_of};
 ghost use Rattle.ua_chunk.specs.Layout.{chunk_of};
 ghost use Rattle.ua_chunk.specs.Numbers.{number_after};
@@ -28,7 +30,19 @@ use ua_service::{Request, read_request};
 use ua_value::plumbing::let_go;
 use ua_value::{Emit, NoMemory};
 
-/// Puts a part to those before it. The result is the request that it makes whole, if any.
+/// The request of which the bytes are the body.
+fn request_in(alloc: Global, body: &[u8]) -> Result<Option<Request>, Fault>
+    requires short { length body.now ≤ input_limit }
+    ensures judged { Judges ((is_none (request_of body.now), 0x80070000) ∷ []) (λ request. request ≡ request_of body.now) result }
+{
+    match read_request(alloc, body) {
+        Ok(request) => Ok(Some(request)),
+        Err(fault) => Err(Fault::from(fault)),
+    }
+}
+
+/// Puts a part to those before it. The result is the request that it makes whole, if any: one that comes in one part is
+/// read where it stands.
 fn gather(alloc: Global, half: &mut Assembly, chunk: &Chunk) -> Result<Option<Request>, Fault>
     requires message { chunk.now.kind ≡ kinds.Message }
     requires between { half.old.whole ≡ false }
@@ -39,13 +53,13 @@ fn gather(alloc: Global, half: &mut Assembly, chunk: &Chunk) -> Result<Option<Re
     ensures max_chunks { half.new.max_chunks ≡ half.old.max_chunks }
     ensures bytes { length (body_of half.new.half) ≤ half.new.max_message }
 {
+    if let Some(body) = half.whole_in(chunk) {
+        return request_in(alloc, body);
+    }
     if half.add(chunk)? != Added::Whole {
         return Ok(None);
     }
-    let read = match read_request(alloc, half.body()) {
-        Ok(request) => Ok(Some(request)),
-        Err(fault) => Err(Fault::from(fault)),
-    };
+    let read = request_in(alloc, half.body());
     half.clear();
     read
 }

@@ -1,6 +1,8 @@
 //! Frames that open the channel, or renew its token.
 
 ghost use Rattle.std.specs.Prelude.{◌≡◌, ◌<◌, ◌≤◌, ◌^◌, ◌∷◌, [], ◌++◌, length, is_some, Some, None, List, IfOk, IfErr};
+ghost use Rattle.std.specs.Int.{w32, w64, to_le_bytes};
+ghost use Rattle.ua_value.specs.Text.{null};
 ghost use Rattle.ua_chunk.specs.Layout.{open_chunk_of};
 ghost use Rattle.ua_chunk.specs.Assembly.{half_of};
 ghost use Rattle.ua_channel.specs.Channel.{numbered};
@@ -19,9 +21,9 @@ use ua_channel::{Issued, ServerChannel};
 use ua_chunk::{Assembly, OpenChunk, Sequence, write_open};
 use ua_frame::status::BAD_TCP_MESSAGE_TYPE_INVALID;
 use ua_frame::{Frame, Kind, VERSION};
-use ua_service::{OpenResponse, body_of, read_open, response_header};
+use ua_service::encoding::OPEN_RESPONSE;
+use ua_service::{read_open, response_head};
 use ua_value::plumbing::let_go;
-use ua_value::{DateTime, NoMemory, UaBytes};
 
 /// The status of what went well.
 const GOOD: u32 = 0;
@@ -75,22 +77,34 @@ fn grant(
     })
 }
 
-/// The body of the answer to an open request.
-#[tactic(auto, unfolding(crate::specs::server::Answers::opened_body))]
-fn opened_body(alloc: Global, channel: u32, granted: Granted, now: u64) -> Result<Vec<u8>, NoMemory>
+/// What the answer to an open request has behind its header: the version, the ids of the channel and of the token, the
+/// moment and the lifetime, and no nonce.
+fn opened_fields(channel: u32, granted: Granted, now: u64) -> [u8; 28]
     requires { now < 2 ^ 63 }
-    ensures { IfOk result (λ body. body.items ≡ opened_body granted.handle now channel (record { id = granted.token; issued = now; lifetime = granted.lifetime })) }
+    ensures { result ≡ to_le_bytes w32 0 ++ to_le_bytes w32 channel ++ to_le_bytes w32 granted.token ++ to_le_bytes w64 now ++ to_le_bytes w32 granted.lifetime ++ null }
 {
-    let response = OpenResponse {
-        header: response_header(now as i64, granted.handle, GOOD),
-        server_protocol_version: VERSION,
-        channel_id: channel,
-        token_id: granted.token,
-        created_at: DateTime(now as i64),
-        revised_lifetime: granted.lifetime,
-        server_nonce: UaBytes::null(),
-    };
-    body_of(alloc, response)
+    let [v0, v1, v2, v3] = VERSION.to_le_bytes();
+    let [c0, c1, c2, c3] = channel.to_le_bytes();
+    let [t0, t1, t2, t3] = granted.token.to_le_bytes();
+    let [m0, m1, m2, m3, m4, m5, m6, m7] = now.to_le_bytes();
+    let [l0, l1, l2, l3] = granted.lifetime.to_le_bytes();
+    [
+        v0, v1, v2, v3, c0, c1, c2, c3, t0, t1, t2, t3, m0, m1, m2, m3, m4, m5, m6, m7, l0, l1, l2,
+        l3, 255, 255, 255, 255,
+    ]
+}
+
+/// The body of the answer to an open request, whose length never changes. OPC 10000-4, 5.6.2.
+#[tactic(auto, unfolding(crate::specs::server::Answers::opened_body, ua_service::specs::Message::message, ua_service::specs::Channel::open_response, ua_value::specs::Number::unsigned, ua_value::specs::Number::signed, ua_value::specs::Date::date_time, ua_value::specs::Text::bytes_of))]
+fn opened_body(channel: u32, granted: Granted, now: u64) -> [u8; 56]
+    requires { now < 2 ^ 63 }
+    ensures { result ≡ opened_body granted.handle now channel (record { id = granted.token; issued = now; lifetime = granted.lifetime }) }
+{
+    let mut body = [0; 56];
+    let (head, fields) = body.split_at_mut(28);
+    head.copy_from_slice(&response_head(OPEN_RESPONSE, now as i64, granted.handle, GOOD));
+    fields.copy_from_slice(&opened_fields(channel, granted, now));
+    body
 }
 
 impl<'a> Connection<'a> {
@@ -108,7 +122,7 @@ impl<'a> Connection<'a> {
         let opening = opening_of(frame)?;
         admit(&mut self.channel, &self.half, &opening)?;
         let granted = grant(self.alloc, &mut self.channel, opening.body(), now)?;
-        let body = opened_body(self.alloc, self.id, granted, now)?;
+        let body = opened_body(self.id, granted, now);
         write_open(self.id, opening.request_id(), &body, &mut self.next, out)?;
         Ok(())
     }

@@ -1,4 +1,4 @@
-use Rattle.std.proofs.Common.{◌≡◌, Bool, ◌∙◌, ℕ, List, refl, sym, subst, map}
+use Rattle.std.proofs.Common.{◌≡◌, Bool, true, ◌∙◌, ℕ, List, ap, refl, sym, subst, map}
 use Rattle.std.specs.List.{flat_map, filter}
 use Rattle.std.proofs.lemmas.List.{take_all}
 use Rattle.std.proofs.lemmas.Result.{err_from_is_err_and}
@@ -27,6 +27,7 @@ returns-in_err-put-clause-err g c =
     let new = g.S.Sink.contents c.put.new.out in
     let all : flat_map canon (map described (filter asked c.endpoints-offered.result.now)) ≡ flat_map canon (endpoints_found c.args.settings.now c.args.request.now) =
     rw (c.endpoints-offered.ensures.endpoints, c.in_language-name.ensures, c.application-application.ensures.application) refl in
+    let is : asked c.endpoint-item.result ≡ true = ap (λ f. is_asked f c.endpoint-item.result.transport) (sym (c.loop-endpoint.invariant).0) ∙ sym c.asks_for.ensures.asked ∙ c.if-asks_for.true in
     let part = part_of_found canon described asked c.endpoints-offered.result.now c.loop-endpoint.endpoint-index c.endpoint-item.result old (g.S.Sink.contents c.loop-endpoint.out) new
-    c.loop-endpoint-test.true c.endpoint-item.is (sym c.still_asks_for-asked.ensures ∙ c.if-asked.true) (c.loop-endpoint.invariant).1 c.in_err-put.ensures.err in
+    c.loop-endpoint-test.true c.endpoint-item.is is (c.loop-endpoint.invariant).1 c.in_err-put.ensures.err in
     rw failed.1 (subst (λ (l : List ℕ). AppendsPart old new l) all part)

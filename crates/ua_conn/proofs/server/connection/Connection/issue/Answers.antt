@@ -12,7 +12,7 @@ use Rattle.ua_conn.proofs.server.connection.Connection.issue.Goals as goal
 pub write_open-requires : goal.write_open-requires
 write_open-requires c =
     let granted = c.in_ok-granted.granted in
-    opened_short granted.handle c.args.now c.self.inside.id (record { id = granted.token; issued = c.args.now; lifetime = granted.lifetime }) c.deref.result.now (c.deref.ensures.value ∙ c.in_ok-body.ensures)
+    opened_short granted.handle c.args.now c.self.inside.id (record { id = granted.token; issued = c.args.now; lifetime = granted.lifetime }) c.opened_body-body.result c.opened_body-body.ensures
 
 pub returns-clause-does : goal.returns-clause-does
 returns-clause-does c = λ asked.
@@ -24,7 +24,6 @@ returns-clause-does c = λ asked.
     let issued = ap (λ b. first_row (asked_rows c.admit.new.channel.channel (open_of b))) (sym c.body.ensures) ∙ c.in_ok-granted.ensures.judged.0 in
     let grants = subst (λ b. Grants c.admit.new.channel c.grant.new.channel c.args.now (open_of b) granted) c.body.ensures c.in_ok-granted.ensures.judged.1 in
     let said = c.in_ok-write_open.ensures.written
-    ∙ (λ i. c.args.out.now.items ++ open_frame s.id s.next (c.request_id.ensures i) (c.deref.ensures.value i))
-    ∙ ap (λ b. c.args.out.now.items ++ open_frame s.id s.next opening.request_id b) c.in_ok-body.ensures in
+    ∙ (λ i. c.args.out.now.items ++ open_frame s.id s.next (c.request_id.ensures i) (c.opened_body-body.ensures i)) in
     rw (c.in_ok-write_open.ensures.numbered, ← c.self.view_is) (open_acts s.settings.now s.id s.agreed s.channel c.admit.new.channel c.grant.new.channel s.half.half s.next c.args.now (open_chunk_of c.args.frame.now.fields) opening granted
     c.args.out.now.items _ asked c.self.invariant.same c.in_ok-opening.ensures.found between c.in_ok-admit.ensures.judged.1 issued grants said)
