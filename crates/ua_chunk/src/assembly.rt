@@ -83,6 +83,7 @@ impl Assembly {
     pub fn whole_in<'a>(&self, chunk: &'a Chunk) -> Option<&'a [u8]>
         ensures alone { IfSome result (λ body. (self.now.half ≡ None) × (chunk.now.flag ≡ 70) × (body.now ≡ chunk.now.chunk.body)) }
         ensures passed { is_some result ≡ true → part_fault self.now chunk.now ≡ None }
+        ensures found { self.now.half ≡ None → chunk.now.flag ≡ 70 → part_fault self.now chunk.now ≡ None → is_some result ≡ true }
     {
         let bytes = chunk.body();
         let fits = self.max_chunks > 0 && bytes.len() <= self.max_message as usize;
@@ -104,6 +105,7 @@ impl Assembly {
     /// The status of the first of these that holds: `BAD_TCP_MESSAGE_TYPE_INVALID` where the chunk has another request
     /// id than the parts before it; `BAD_TCP_MESSAGE_TOO_LARGE` where a `C` or `F` makes more parts or more bytes than
     /// the limits; `BAD_DECODING_ERROR` where an `A` has not the body of an abort. The parts are as before then.
+    #[inline(always)]
     pub fn add(&mut self, chunk: &Chunk) -> Result<Added, u32>
         requires message { chunk.now.kind ≡ Message }
         requires cleared { self.old.whole ≡ false }
