@@ -4,6 +4,7 @@
 
 mod choosing;
 mod names;
+mod places;
 mod verdicts;
 
 pub use choosing::asks_for;

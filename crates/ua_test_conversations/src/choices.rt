@@ -90,6 +90,41 @@ fn a_null_locale_is_that_of_a_name_without_one(rt: HostRuntime) {
     }
 }
 
+/// The first name is German, and two are in English, in no language, and in that of the empty text.
+const TWO_OF_A_LOCALE: &str = r#"version = 1
+[application]
+uri = "urn:a"
+product_uri = "urn:p"
+discovery_urls = ["opc.tcp://localhost:4840"]
+names = [
+    { locale = "de", text = "Presse" },
+    { locale = "en", text = "Press" },
+    { text = "a" },
+    { locale = "", text = "b" },
+    { locale = "en", text = "Printer" },
+    { text = "c" },
+    { locale = "", text = "d" },
+]
+"#;
+
+/// A locale that two of them are in, and the first of the two; then one that is in none.
+const FIRST_OF_A_LOCALE: [(&[u8], &[u8]); 4] = [
+    (b"\x01\0\0\0\x02\0\0\0en", ENGLISH),
+    (b"\x01\0\0\0\xFF\xFF\xFF\xFF", b"\x02\x01\0\0\0a"),
+    (b"\x01\0\0\0\0\0\0\0", b"\x03\0\0\0\0\x01\0\0\0b"),
+    (b"\x01\0\0\0\x02\0\0\0fr", GERMAN),
+];
+
+#[test]
+fn of_two_names_in_a_locale_the_first_is_given(rt: HostRuntime) {
+    for (locales, name) in FIRST_OF_A_LOCALE {
+        assert!(rt;
+            is_named(rt.alloc(), TWO_OF_A_LOCALE, locales, name),
+            "{locales:?}"
+        );
+    }
+}
+
 /// Frames without servers and without endpoints.
 const NO_SERVERS: &[u8] =
     b"MSGF\x38\0\0\0\x01\0\0\0\x01\0\0\0\x02\0\0\0\x02\0\0\0\x01\0\xA9\x01\0\0\0\0\0\0\0\0\x02\0\0\0\0\0\0\0\0\xFF\xFF\xFF\xFF\0\0\0\0\0\0\0";
