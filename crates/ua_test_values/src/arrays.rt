@@ -1,6 +1,7 @@
 //! Arrays: bytes and what they spell.
 
-use crate::spelling::{Shown, is_whole};
+use crate::spelling::{Shown, are_texts, is_made, is_whole};
+use crate::texts::Text;
 use std::alloc::Global;
 use ua_value::{Array, UaString};
 
@@ -41,9 +42,9 @@ const TEXTS: &[u8] = &[
 
 #[test]
 fn arrays_of_numbers(rt: HostRuntime) {
-    for (bytes, items) in NUMBERS {
+    for (bytes, items) in &NUMBERS {
         assert!(rt;
-            is_whole::<Array<u16>, Numbers>(rt.alloc(), bytes, &Numbers(items)),
+            is_whole::<Array<u16>, Numbers>(rt.alloc(), bytes, &Numbers(*items)),
             "{bytes:?}"
         );
     }
@@ -54,35 +55,23 @@ fn arrays_of_texts(rt: HostRuntime) {
     assert!(rt; is_whole::<Array<UaString>, Texts>(rt.alloc(), TEXTS, &Texts));
 }
 
-/// Whether the array has three texts, these.
-fn are_three(array: &Array<UaString>) -> bool {
-    match array.get() {
-        Some([first, second, third]) => {
-            first.get() == Some("en") && second.get() == Some("") && third.get() == Some("水")
-        }
-        _ => false,
+/// These texts, all of them.
+#[derive(Drop)]
+struct AreTexts<'a>(&'a [&'a str]);
+
+impl Shown<Array<UaString>> for AreTexts<'_> {
+    fn is_shown(&self, array: &Array<UaString>) -> bool {
+        are_texts(array, self.0)
     }
 }
 
 fn texts_are_copied(alloc: Global) -> bool {
-    match Array::of_texts(alloc, &["en", "", "水"]) {
-        Ok(array) => are_three(&array),
-        Err(_) => false,
-    }
+    let copied = Array::of_texts(alloc, &["en", "", "水"]);
+    is_made(copied, &AreTexts(&["en", "", "水"]))
 }
 
 fn no_texts_are_an_empty_array(alloc: Global) -> bool {
-    match Array::of_texts(alloc, &[]) {
-        Ok(array) => matches!(array.get(), Some([])),
-        Err(_) => false,
-    }
-}
-
-fn text_is_copied(alloc: Global) -> bool {
-    match UaString::of_text(alloc, "水") {
-        Ok(text) => text.get() == Some("水"),
-        Err(_) => false,
-    }
+    is_made(Array::of_texts(alloc, &[]), &AreTexts(&[]))
 }
 
 #[test]
@@ -90,5 +79,5 @@ fn lent_texts_are_copied(rt: HostRuntime) {
     let alloc = rt.alloc();
     assert!(rt; texts_are_copied(alloc));
     assert!(rt; no_texts_are_an_empty_array(alloc));
-    assert!(rt; text_is_copied(alloc));
+    assert!(rt; is_made(UaString::of_text(alloc, "水"), &Text(Some("水"))));
 }

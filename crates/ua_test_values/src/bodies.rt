@@ -193,16 +193,11 @@ fn bodies_of_a_channel_are_read_and_written(rt: HostRuntime) {
 #[test]
 fn bodies_of_discovery_are_read_and_written(rt: HostRuntime) {
     let alloc = rt.alloc();
-    for body in [FIND_REQUEST_BODY, ENDPOINTS_REQUEST_BODY] {
-        assert!(rt; is_whole::<Request>(alloc, body), "{body:?}");
-    }
-    for body in [
-        FIND_RESPONSE_BODY,
-        ENDPOINTS_RESPONSE_BODY,
-        FAULT_RESPONSE_BODY,
-    ] {
-        assert!(rt; is_whole::<Response>(alloc, body), "{body:?}");
-    }
+    assert!(rt; is_whole::<Request>(alloc, FIND_REQUEST_BODY));
+    assert!(rt; is_whole::<Request>(alloc, ENDPOINTS_REQUEST_BODY));
+    assert!(rt; is_whole::<Response>(alloc, FIND_RESPONSE_BODY));
+    assert!(rt; is_whole::<Response>(alloc, ENDPOINTS_RESPONSE_BODY));
+    assert!(rt; is_whole::<Response>(alloc, FAULT_RESPONSE_BODY));
 }
 
 /// Whether it was read; where it was not, nothing else than a refusal keeps it from that.
@@ -215,7 +210,7 @@ fn is_read<T: Drop>(answer: Result<T, ReadFault>) -> Option<bool> {
 }
 
 /// Whether the bytes are read as a request, a response, an open request, its response, and a close request.
-fn has_readers(alloc: Global, bytes: &[u8], readers: [bool; 5]) -> bool {
+fn has_readers(alloc: Global, bytes: &[u8], readers: &[bool; 5]) -> bool {
     bytes.len() <= 1000
         && is_read(read_request(alloc, bytes)) == Some(readers[0])
         && is_read(read_response(alloc, bytes)) == Some(readers[1])
@@ -240,7 +235,7 @@ const READERS: [(&[u8], [bool; 5]); 10] = [
 
 #[test]
 fn each_body_has_its_readers(rt: HostRuntime) {
-    for (bytes, readers) in READERS {
+    for (bytes, readers) in &READERS {
         assert!(rt; has_readers(rt.alloc(), bytes, readers), "{bytes:?}");
     }
 }
@@ -265,6 +260,26 @@ fn has_both_forms<B: Body + Known>(alloc: Global, body: &[u8]) -> bool {
     }
 }
 
+fn have_both_forms<B: Body + Known>(alloc: Global, bodies: &[&[u8]]) -> bool {
+    let mut all = true;
+    for body in bodies {
+        all &= has_both_forms::<B>(alloc, body);
+    }
+    all
+}
+
+const REQUESTS: &[&[u8]] = &[
+    FIND_REQUEST_BODY,
+    ENDPOINTS_REQUEST_BODY,
+    OTHER_REQUEST_BODY,
+];
+
+const RESPONSES: &[&[u8]] = &[
+    FIND_RESPONSE_BODY,
+    ENDPOINTS_RESPONSE_BODY,
+    FAULT_RESPONSE_BODY,
+];
+
 /// Whether the body of a find request has 69 bytes, and 72 with the long form of its id.
 fn has_72_bytes(alloc: Global) -> bool {
     match with_long_id(alloc, FIND_REQUEST_BODY) {
@@ -281,20 +296,8 @@ fn has_72_bytes(alloc: Global) -> bool {
 fn the_long_form_of_an_id_is_read_and_the_short_one_written(rt: HostRuntime) {
     let alloc = rt.alloc();
     assert!(rt; has_72_bytes(alloc));
-    for body in [
-        FIND_REQUEST_BODY,
-        ENDPOINTS_REQUEST_BODY,
-        OTHER_REQUEST_BODY,
-    ] {
-        assert!(rt; has_both_forms::<Request>(alloc, body), "{body:?}");
-    }
-    for body in [
-        FIND_RESPONSE_BODY,
-        ENDPOINTS_RESPONSE_BODY,
-        FAULT_RESPONSE_BODY,
-    ] {
-        assert!(rt; has_both_forms::<Response>(alloc, body), "{body:?}");
-    }
+    assert!(rt; have_both_forms::<Request>(alloc, REQUESTS));
+    assert!(rt; have_both_forms::<Response>(alloc, RESPONSES));
     assert!(rt; has_both_forms::<OpenRequest>(alloc, OPEN_REQUEST_BODY));
     assert!(rt; has_both_forms::<OpenResponse>(alloc, OPEN_RESPONSE_BODY));
     assert!(rt; has_both_forms::<CloseRequest>(alloc, CLOSE_REQUEST_BODY));

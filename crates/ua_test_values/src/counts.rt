@@ -3,7 +3,7 @@
 
 use crate::frames::AGREED;
 use crate::making::data_of;
-use crate::spelling::is_refused;
+use crate::spelling::are_refused;
 use crate::vectors::ACKNOWLEDGE;
 use std::alloc::Global;
 use ua_frame::{Ack, frame_at};
@@ -96,12 +96,10 @@ const COUNTS: [&[u8]; 3] = [
 #[test]
 fn counts_beyond_the_bytes_are_refused_without_memory(rt: HostRuntime) {
     let alloc = rt.alloc();
-    for bytes in COUNTS {
-        assert!(rt; is_refused::<Array<u8>>(alloc, bytes), "{bytes:?}");
-        assert!(rt; is_refused::<Array<UaString>>(alloc, bytes), "{bytes:?}");
-        assert!(rt; is_refused::<UaString>(alloc, bytes), "{bytes:?}");
-        assert!(rt; is_refused::<UaBytes>(alloc, bytes), "{bytes:?}");
-    }
+    assert!(rt; are_refused::<Array<u8>>(alloc, &COUNTS));
+    assert!(rt; are_refused::<Array<UaString>>(alloc, &COUNTS));
+    assert!(rt; are_refused::<UaString>(alloc, &COUNTS));
+    assert!(rt; are_refused::<UaBytes>(alloc, &COUNTS));
 }
 
 /// Arrays of Int32, of Variants and of texts with dimensions.
@@ -121,10 +119,6 @@ const DATA: [&[u8]; 3] = [
 #[test]
 fn arrays_beyond_the_bytes_are_refused_without_memory(rt: HostRuntime) {
     let alloc = rt.alloc();
-    for bytes in VARIANTS {
-        assert!(rt; is_refused::<Variant>(alloc, bytes), "{bytes:?}");
-    }
-    for bytes in DATA {
-        assert!(rt; is_refused::<DataValue>(alloc, bytes), "{bytes:?}");
-    }
+    assert!(rt; are_refused::<Variant>(alloc, &VARIANTS));
+    assert!(rt; are_refused::<DataValue>(alloc, &DATA));
 }

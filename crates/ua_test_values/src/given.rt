@@ -1,6 +1,7 @@
 //! What is given back as it was taken, and what is made of plain values.
 
 use crate::making::is_made_as;
+use crate::spelling::is_printed;
 use std::alloc::Global;
 use ua_value::{StatusCode, UaString, XmlElement};
 use ua_variant::{Element, Kind, Variant};
@@ -61,14 +62,6 @@ fn texts_are_given_back(rt: HostRuntime) {
     }
 }
 
-fn is_printed(alloc: Global, code: u32, text: &str) -> bool {
-    let status = StatusCode(code);
-    match format!(in alloc; "{status}") {
-        Ok(printed) => printed.as_str() == text,
-        Err(_) => false,
-    }
-}
-
 const STATUSES: [(u32, &str); 4] = [
     (0, "00000000 Good"),
     (0x8007_0000, "80070000 BadDecodingError"),
@@ -78,8 +71,8 @@ const STATUSES: [(u32, &str); 4] = [
 
 #[test]
 fn statuses_have_digits_and_names(rt: HostRuntime) {
-    for (code, text) in STATUSES {
-        assert!(rt; is_printed(rt.alloc(), code, text), "{text}");
+    for (code, text) in &STATUSES {
+        assert!(rt; is_printed(rt.alloc(), StatusCode(*code), text), "{text}");
     }
 }
 

@@ -1,10 +1,11 @@
 //! Each call that grows gives its full answer, or says that memory ran out and leaves what stood before. These tests are run with each growth
 //! refused in turn (tools/refuse-growths).
 
-use crate::frames::{AGREED, ERROR, TOLD, error_of, hello_of};
+use crate::frames::{AGREED, ERROR, TOLD, Written, error_of, hello_of};
 use crate::making::around;
 use crate::requests::{Header, Session, request_of};
 use crate::spelling::{Shown, is_behind, is_text};
+use crate::texts::{Content, Text};
 use crate::variants::{DATA, DIAGNOSTICS, Depth};
 use crate::vectors::{
     ACKNOWLEDGE, CLOSE_REQUEST_BODY, ENDPOINTS_REQUEST_BODY, ENDPOINTS_RESPONSE_BODY,
@@ -94,7 +95,7 @@ const EXPANDED: &[u8] = &[0xc3, 1, 0, 1, 0, 0, 0, 0x61, 1, 0, 0, 0, 0x62, 2, 0, 
 
 #[test]
 fn node_ids_or_no_memory(rt: HostRuntime) {
-    for bytes in NODE_IDS {
+    for bytes in &NODE_IDS {
         assert!(rt;
             is_full_or_no_memory::<NodeId>(rt.alloc(), bytes),
             "{bytes:?}"
@@ -137,16 +138,11 @@ fn lent_texts_or_no_memory(rt: HostRuntime) {
 
 /// Whether each constructor keeps the three letters, or says that memory ran out.
 fn are_made_or_no_memory(alloc: Global) -> bool {
-    (match UaString::new(alloc, "abc") {
-        Ok(string) => string.get() == Some("abc"),
-        Err(fault) => fault == ValueFault::NoMemory,
-    }) && (match XmlElement::new(alloc, "abc") {
-        Ok(element) => element.get() == Some("abc"),
-        Err(fault) => fault == ValueFault::NoMemory,
-    }) && (match UaBytes::new(alloc, b"abc") {
-        Ok(bytes) => bytes.get() == Some(b"abc".as_slice()),
-        Err(fault) => fault == ValueFault::NoMemory,
-    })
+    let (text, bytes) = (Text(Some("abc")), Content(Some(b"abc")));
+    let none = ValueFault::NoMemory;
+    is_shown_or_no_memory(UaString::new(alloc, "abc"), &text, none)
+        && is_shown_or_no_memory(XmlElement::new(alloc, "abc"), &text, none)
+        && is_shown_or_no_memory(UaBytes::new(alloc, b"abc"), &bytes, none)
 }
 
 #[test]
@@ -183,7 +179,7 @@ const EXTENSIONS: [&[u8]; 2] = [
 #[test]
 fn values_or_no_memory(rt: HostRuntime) {
     let alloc = rt.alloc();
-    for bytes in EXTENSIONS {
+    for bytes in &EXTENSIONS {
         assert!(rt;
             is_full_or_no_memory::<ExtensionObject>(alloc, bytes),
             "{bytes:?}"
@@ -194,10 +190,15 @@ fn values_or_no_memory(rt: HostRuntime) {
     assert!(rt; is_full_or_no_memory::<Variant>(alloc, NESTED));
 }
 
-fn is_shown_or_no_memory<T: Drop, W: Shown<T>>(made: Result<T, VariantFault>, want: &W) -> bool {
+/// Whether what was made shows what is wanted, or memory ran out, of which this is the fault.
+fn is_shown_or_no_memory<T: Drop, F: PartialEq + Drop, W: Shown<T>>(
+    made: Result<T, F>,
+    want: &W,
+    no_memory: F,
+) -> bool {
     match made {
         Ok(value) => want.is_shown(&value),
-        Err(fault) => fault == VariantFault::NoMemory,
+        Err(fault) => fault == no_memory,
     }
 }
 
@@ -206,7 +207,7 @@ fn nested_values_or_no_memory(rt: HostRuntime) {
     let alloc = rt.alloc();
     let inner = around(alloc, None).ok();
     let depth = if inner.is_some() { 2 } else { 1 };
-    assert!(rt; is_shown_or_no_memory(around(alloc, inner), &Depth(depth)));
+    assert!(rt; is_shown_or_no_memory(around(alloc, inner), &Depth(depth), VariantFault::NoMemory));
 }
 
 /// Whether the body is read and written, as far as memory goes.
@@ -238,30 +239,18 @@ fn messages_of_a_channel_or_no_memory(rt: HostRuntime) {
 
 #[test]
 fn requests_or_no_memory(rt: HostRuntime) {
-    for body in [
-        FIND_REQUEST_BODY,
-        ENDPOINTS_REQUEST_BODY,
-        OTHER_REQUEST_BODY,
-    ] {
-        assert!(rt;
-            is_body_or_no_memory::<Request>(rt.alloc(), body),
-            "{body:?}"
-        );
-    }
+    let alloc = rt.alloc();
+    assert!(rt; is_body_or_no_memory::<Request>(alloc, FIND_REQUEST_BODY));
+    assert!(rt; is_body_or_no_memory::<Request>(alloc, ENDPOINTS_REQUEST_BODY));
+    assert!(rt; is_body_or_no_memory::<Request>(alloc, OTHER_REQUEST_BODY));
 }
 
 #[test]
 fn responses_or_no_memory(rt: HostRuntime) {
-    for body in [
-        FIND_RESPONSE_BODY,
-        ENDPOINTS_RESPONSE_BODY,
-        FAULT_RESPONSE_BODY,
-    ] {
-        assert!(rt;
-            is_body_or_no_memory::<Response>(rt.alloc(), body),
-            "{body:?}"
-        );
-    }
+    let alloc = rt.alloc();
+    assert!(rt; is_body_or_no_memory::<Response>(alloc, FIND_RESPONSE_BODY));
+    assert!(rt; is_body_or_no_memory::<Response>(alloc, ENDPOINTS_RESPONSE_BODY));
+    assert!(rt; is_body_or_no_memory::<Response>(alloc, FAULT_RESPONSE_BODY));
 }
 
 fn is_request_copied_or_no_memory<B: Session>(alloc: Global, request: &B, body: &[u8]) -> bool {
@@ -283,16 +272,10 @@ fn has_copy_or_no_memory<B: Session>(alloc: Global, body: &[u8]) -> bool {
 
 #[test]
 fn copies_of_requests_or_no_memory(rt: HostRuntime) {
-    for body in [
-        FIND_REQUEST_BODY,
-        ENDPOINTS_REQUEST_BODY,
-        OTHER_REQUEST_BODY,
-    ] {
-        assert!(rt;
-            has_copy_or_no_memory::<Request>(rt.alloc(), body),
-            "{body:?}"
-        );
-    }
+    let alloc = rt.alloc();
+    assert!(rt; has_copy_or_no_memory::<Request>(alloc, FIND_REQUEST_BODY));
+    assert!(rt; has_copy_or_no_memory::<Request>(alloc, ENDPOINTS_REQUEST_BODY));
+    assert!(rt; has_copy_or_no_memory::<Request>(alloc, OTHER_REQUEST_BODY));
 }
 
 /// The one endpoint of the response.
@@ -315,38 +298,34 @@ fn other_requests_or_no_memory(rt: HostRuntime) {
     assert!(rt; is_made_or_no_memory::<RequestHeader>(rt.alloc()));
 }
 
-fn hello_or_no_memory(alloc: Global) -> bool {
+fn is_frame_written_or_no_memory<W: Written>(alloc: Global, frame: &W, bytes: &[u8]) -> bool {
     let Ok(mut out) = [7].to_vec(alloc) else {
         return true;
     };
+    let wrote = frame.put(&mut out);
+    is_all_or_nothing(wrote, out.as_slice(), bytes)
+}
+
+fn hello_or_no_memory(alloc: Global) -> bool {
     match hello_of(alloc, HELLO) {
         Ok(hello) => {
-            let wrote = hello.write(&mut out);
             is_text(&hello.url, "opc.tcp://localhost:4840")
-                && is_all_or_nothing(wrote, out.as_slice(), HELLO)
+                && is_frame_written_or_no_memory(alloc, &hello, HELLO)
         }
         Err(fault) => fault == ReadFault::NoMemory,
     }
 }
 
 fn acknowledge_or_no_memory(alloc: Global) -> bool {
-    let Ok(mut out) = [7].to_vec(alloc) else {
-        return true;
-    };
-    let wrote = AGREED.write(&mut out);
-    is_all_or_nothing(wrote, out.as_slice(), ACKNOWLEDGE)
+    is_frame_written_or_no_memory(alloc, &AGREED, ACKNOWLEDGE)
 }
 
 fn error_or_no_memory(alloc: Global) -> bool {
-    let Ok(mut out) = [7].to_vec(alloc) else {
-        return true;
-    };
     let error = ErrorFrame {
         status: BAD_TCP_MESSAGE_TYPE_INVALID,
         reason: UaString::null(),
     };
-    let wrote = error.write(&mut out);
-    is_all_or_nothing(wrote, out.as_slice(), ERROR)
+    is_frame_written_or_no_memory(alloc, &error, ERROR)
 }
 
 fn told_or_no_memory(alloc: Global) -> bool {

@@ -59,14 +59,13 @@ const LOCALIZED: [(&[u8], Option<&str>, Option<&str>, &[u8]); 4] = [
 #[test]
 fn localized_texts_leave_out_what_is_absent(rt: HostRuntime) {
     let alloc = rt.alloc();
-    for (bytes, locale, text, canon) in LOCALIZED {
-        let want = Localized(locale, text);
+    for (bytes, locale, text, canon) in &LOCALIZED {
+        let want = Localized(*locale, *text);
         assert!(rt;
             spells::<LocalizedText, Localized>(alloc, bytes, bytes.len(), canon, &want),
             "{bytes:?}"
         );
     }
-    for bytes in [[0x04], [0x80]] {
-        assert!(rt; is_refused::<LocalizedText>(alloc, &bytes), "{bytes:?}");
-    }
+    assert!(rt; is_refused::<LocalizedText>(alloc, &[0x04]));
+    assert!(rt; is_refused::<LocalizedText>(alloc, &[0x80]));
 }

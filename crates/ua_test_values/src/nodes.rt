@@ -1,6 +1,6 @@
 //! Node ids and expanded node ids: bytes and what they spell.
 
-use crate::spelling::{Shown, is_refused, is_text, is_whole, is_written, spells};
+use crate::spelling::{Shown, are_refused, is_text, is_whole, is_written, spells};
 use std::alloc::Global;
 use ua_value::{ExpandedNodeId, Identifier, NodeId};
 
@@ -58,13 +58,13 @@ fn is_made(alloc: Global, namespace: u16, number: u32, canon: &[u8]) -> bool {
 #[test]
 fn numeric_node_ids_have_three_forms(rt: HostRuntime) {
     let alloc = rt.alloc();
-    for (bytes, namespace, number, canon) in NUMERIC {
-        let want = Numbered(namespace, number);
+    for (bytes, namespace, number, canon) in &NUMERIC {
+        let want = Numbered(*namespace, *number);
         assert!(rt;
             spells::<NodeId, Numbered>(alloc, bytes, bytes.len(), canon, &want),
             "{bytes:?}"
         );
-        assert!(rt; is_made(alloc, namespace, number, canon), "{bytes:?}");
+        assert!(rt; is_made(alloc, *namespace, *number, canon), "{bytes:?}");
     }
 }
 
@@ -125,9 +125,7 @@ const NO_IDS: [&[u8]; 5] = [
 #[test]
 fn node_ids_of_other_forms(rt: HostRuntime) {
     assert!(rt; are_other_forms(rt.alloc()));
-    for bytes in NO_IDS {
-        assert!(rt; is_refused::<NodeId>(rt.alloc(), bytes), "{bytes:?}");
-    }
+    assert!(rt; are_refused::<NodeId>(rt.alloc(), &NO_IDS));
 }
 
 /// The id 72 with a URI, if there is one, and a server.
@@ -185,14 +183,12 @@ const NO_EXPANDED: [&[u8]; 3] = [&[0x06, 0x48], &[0x3f, 0x48], &[0xc6, 0x48]];
 #[test]
 fn expanded_node_ids_leave_out_what_is_absent(rt: HostRuntime) {
     let alloc = rt.alloc();
-    for (bytes, used, uri, server, canon) in EXPANDED {
-        let want = Expanded(uri, server);
+    for (bytes, used, uri, server, canon) in &EXPANDED {
+        let want = Expanded(*uri, *server);
         assert!(rt;
-            spells::<ExpandedNodeId, Expanded>(alloc, bytes, used, canon, &want),
+            spells::<ExpandedNodeId, Expanded>(alloc, bytes, *used, canon, &want),
             "{bytes:?}"
         );
     }
-    for bytes in NO_EXPANDED {
-        assert!(rt; is_refused::<ExpandedNodeId>(alloc, bytes), "{bytes:?}");
-    }
+    assert!(rt; are_refused::<ExpandedNodeId>(alloc, &NO_EXPANDED));
 }

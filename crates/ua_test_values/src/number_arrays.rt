@@ -47,8 +47,8 @@ const COUNTS: [u8; 7] = [0, 1, 3, 4, 5, 8, 9];
 
 fn are_arrays<T: Wire + PartialEq>(alloc: Global, width: usize, bytes: &[u8], items: &[T]) -> bool {
     let mut all = true;
-    for count in COUNTS {
-        if !is_array_of(alloc, count, width, bytes, items) {
+    for count in &COUNTS {
+        if !is_array_of(alloc, *count, width, bytes, items) {
             all = false;
         }
     }

@@ -2,7 +2,6 @@
 
 use crate::spelling::{Shown, spells};
 use std::alloc::Global;
-use std::test::Fail;
 use ua_value::{DateTime, DoubleBits, FloatBits, Guid, StatusCode, Wire};
 
 /// An equal value.
@@ -35,9 +34,9 @@ const BOOLEANS: [(&[u8], bool, &[u8]); 4] = [
 
 #[test]
 fn any_byte_but_zero_is_true(rt: HostRuntime) {
-    for (bytes, value, canon) in BOOLEANS {
+    for (bytes, value, canon) in &BOOLEANS {
         assert!(rt;
-            spells::<bool, Is<bool>>(rt.alloc(), bytes, 1, canon, &Is(value)),
+            spells::<bool, Is<bool>>(rt.alloc(), bytes, 1, canon, &Is(*value)),
             "{bytes:?}"
         );
     }
@@ -96,10 +95,15 @@ fn guids_mix_orders(alloc: Global) -> bool {
         && is_number::<[u8; 8]>(alloc, &GUID_BYTES[8..], 8, GUID.data4)
 }
 
+fn is_guid_shown(alloc: Global, text: &str) -> bool {
+    match GUID.text(alloc) {
+        Ok(shown) => shown.as_str() == text,
+        Err(_) => false,
+    }
+}
+
 #[test]
-fn guids_mix_the_orders_of_bytes(rt: HostRuntime) -> Result<(), Fail> {
+fn guids_mix_the_orders_of_bytes(rt: HostRuntime) {
     assert!(rt; guids_mix_orders(rt.alloc()));
-    let text = GUID.text(rt.alloc())?;
-    assert!(rt; text.as_str() == "72962b91-fa75-4ae6-8d28-b404dc7daf63");
-    Ok(())
+    assert!(rt; is_guid_shown(rt.alloc(), "72962b91-fa75-4ae6-8d28-b404dc7daf63"));
 }

@@ -1,9 +1,8 @@
 //! The other public calls of values: constructors, what looks at a front, fields in order, the laws, and the texts of faults.
 
-use crate::spelling::is_written;
+use crate::spelling::{is_made, is_printed, is_written};
+use crate::texts::{Content, Text};
 use std::alloc::Global;
-use std::fmt::Display;
-use std::test::Fail;
 use ua_value::plumbing::{Fields, Parts, Raw, read_part, read_whole};
 use ua_value::{
     Array, NodeId, ReadFault, Sink, UaBytes, UaString, ValueFault, XmlElement, laws, peek_string,
@@ -12,18 +11,13 @@ use ua_value::{
 
 /// Whether a string and an XML element that are made of a text keep it.
 fn are_texts_made(alloc: Global, text: &str) -> bool {
-    match (UaString::new(alloc, text), XmlElement::new(alloc, text)) {
-        (Ok(string), Ok(element)) => string.get() == Some(text) && element.get() == Some(text),
-        _ => false,
-    }
+    let want = Text(Some(text));
+    is_made(UaString::new(alloc, text), &want) && is_made(XmlElement::new(alloc, text), &want)
 }
 
 /// Whether bytes that are made of two keep them.
 fn are_bytes_made(alloc: Global) -> bool {
-    match UaBytes::new(alloc, &[1, 2]) {
-        Ok(bytes) => bytes.get() == Some([1, 2].as_slice()),
-        Err(_) => false,
-    }
+    is_made(UaBytes::new(alloc, &[1, 2]), &Content(Some(&[1, 2])))
 }
 
 fn are_null() -> bool {
@@ -173,22 +167,14 @@ fn laws_at_two_types() {
     laws::what_is_written_reads_back::<Array<UaString>>();
 }
 
-fn shows<T: Display + Drop>(alloc: Global, fault: T, text: &str) -> bool {
-    match format!(in alloc; "{fault}") {
-        Ok(shown) => shown.as_str() == text,
-        Err(_) => false,
-    }
-}
-
 const LONG: &str = "more than 2147483647 bytes or items";
 
 #[test]
-fn faults_have_texts_and_numbers(rt: HostRuntime) -> Result<(), Fail> {
+fn faults_have_texts_and_numbers(rt: HostRuntime) {
     let alloc = rt.alloc();
-    assert!(rt; shows(alloc, ReadFault::Refused, "the bytes spell no value"));
-    assert!(rt; shows(alloc, ReadFault::NoMemory, "out of memory"));
-    assert!(rt; shows(alloc, ValueFault::TooLong, LONG));
-    assert!(rt; shows(alloc, ValueFault::NoMemory, "out of memory"));
+    assert!(rt; is_printed(alloc, ReadFault::Refused, "the bytes spell no value"));
+    assert!(rt; is_printed(alloc, ReadFault::NoMemory, "out of memory"));
+    assert!(rt; is_printed(alloc, ValueFault::TooLong, LONG));
+    assert!(rt; is_printed(alloc, ValueFault::NoMemory, "out of memory"));
     assert!(rt; ValueFault::TooLong as u8 == 1 && ValueFault::NoMemory as u8 == 2);
-    Ok(())
 }

@@ -62,12 +62,8 @@ fn is_not_made<H: Header>(alloc: Global, id: Id) -> bool {
 
 #[test]
 fn discovery_has_no_other_requests(rt: HostRuntime) {
-    for number in [422, 428] {
-        assert!(rt;
-            is_not_made::<RequestHeader>(rt.alloc(), (0, number)),
-            "{number}"
-        );
-    }
+    assert!(rt; is_not_made::<RequestHeader>(rt.alloc(), (0, 422)));
+    assert!(rt; is_not_made::<RequestHeader>(rt.alloc(), (0, 428)));
 }
 
 /// Whether a request without a rest is made under the id, and written with these bytes before its header.
@@ -89,8 +85,8 @@ const IDS: [(Id, &[u8]); 6] = [
 
 #[test]
 fn other_requests_have_other_ids(rt: HostRuntime) {
-    for (id, bytes) in IDS {
-        assert!(rt; is_made_behind(rt.alloc(), id, bytes), "{bytes:?}");
+    for (id, bytes) in &IDS {
+        assert!(rt; is_made_behind(rt.alloc(), *id, bytes), "{bytes:?}");
     }
     assert!(rt; is_made::<RequestHeader>(rt.alloc(), (0, 461), b"\xAA\xBB", OTHER_REQUEST_BODY));
 }
@@ -179,8 +175,8 @@ fn keeps_beginning(alloc: Global, end: usize, rest: &[u8]) -> bool {
 /// The body is accepted from the end of its header on, and no earlier.
 #[test]
 fn a_rest_is_kept(rt: HostRuntime) {
-    for (end, rest) in RESTS {
-        assert!(rt; keeps_beginning(rt.alloc(), end, rest), "{end}");
+    for (end, rest) in &RESTS {
+        assert!(rt; keeps_beginning(rt.alloc(), *end, rest), "{end}");
     }
     assert!(rt; keeps_more(rt.alloc()));
     assert!(rt; has_no_shorter::<Request>(rt.alloc(), &OTHER_REQUEST_BODY[..33]));
@@ -207,7 +203,7 @@ const FORMS: [(&[u8], &[u8]); 5] = [
 
 #[test]
 fn ids_of_every_form_are_read(rt: HostRuntime) {
-    for (id, canonical_id) in FORMS {
+    for (id, canonical_id) in &FORMS {
         assert!(rt; is_read_in_front(rt.alloc(), id, canonical_id), "{id:?}");
     }
 }
@@ -239,12 +235,9 @@ fn long_has_a_copy(alloc: Global) -> bool {
 
 #[test]
 fn copies_are_equal(rt: HostRuntime) {
-    for body in [
-        FIND_REQUEST_BODY,
-        ENDPOINTS_REQUEST_BODY,
-        OTHER_REQUEST_BODY,
-    ] {
-        assert!(rt; has_a_copy::<Request>(rt.alloc(), body), "{body:?}");
-    }
-    assert!(rt; long_has_a_copy(rt.alloc()));
+    let alloc = rt.alloc();
+    assert!(rt; has_a_copy::<Request>(alloc, FIND_REQUEST_BODY));
+    assert!(rt; has_a_copy::<Request>(alloc, ENDPOINTS_REQUEST_BODY));
+    assert!(rt; has_a_copy::<Request>(alloc, OTHER_REQUEST_BODY));
+    assert!(rt; long_has_a_copy(alloc));
 }

@@ -1,6 +1,7 @@
 //! What tests of values share: whether bytes spell a value as every call of its type sees it.
 
 use std::alloc::{AllocError, Global};
+use std::fmt::Display;
 use ua_value::{Array, ReadFault, UaBytes, UaString, Wire};
 
 /// What a value is to show.
@@ -116,6 +117,22 @@ fn is_copied<T: Wire>(alloc: Global, value: &T, canon: &[u8]) -> bool {
     }
 }
 
+/// Whether it was made, and shows what is wanted.
+pub(crate) fn is_made<T: Drop, E: Drop, W: Shown<T>>(made: Result<T, E>, want: &W) -> bool {
+    match made {
+        Ok(value) => want.is_shown(&value),
+        Err(_) => false,
+    }
+}
+
+/// Whether the value is printed as the text.
+pub(crate) fn is_printed<T: Display + Drop>(alloc: Global, value: T, text: &str) -> bool {
+    match format!(in alloc; "{value}") {
+        Ok(printed) => printed.as_str() == text,
+        Err(_) => false,
+    }
+}
+
 /// Whether the bytes stand behind the one that was there before.
 pub(crate) fn is_behind(out: &[u8], bytes: &[u8]) -> bool {
     out.strip_prefix([7].as_slice()) == Some(bytes)
@@ -137,14 +154,17 @@ pub(crate) fn is_bytes(value: &UaBytes, bytes: &[u8]) -> bool {
 
 /// Whether these are the texts, all of them.
 pub(crate) fn are_texts(array: &Array<UaString>, texts: &[&str]) -> bool {
-    let Some(items) = array.get() else {
-        return false;
-    };
-    let mut are_all = items.len() == texts.len();
-    for (item, text) in items.iter().zip(texts) {
-        if !is_text(item, text) {
-            are_all = false;
-        }
+    match array.get() {
+        Some(items) => items.len() == texts.len() && begin_with(items, texts),
+        None => false,
     }
-    are_all
+}
+
+/// Whether the first of the items are the texts, as far as both go.
+fn begin_with(items: &[UaString], texts: &[&str]) -> bool {
+    let mut all = true;
+    for at in 0..items.len().min(texts.len()) {
+        all &= is_text(&items[at], texts[at]);
+    }
+    all
 }

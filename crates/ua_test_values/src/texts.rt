@@ -16,7 +16,7 @@ const CUT_WATER: &[u8] = &[0x02, 0x00, 0x00, 0x00, 0xe6, 0xb0];
 
 /// The text of a value, or none.
 #[derive(Clone, Copy)]
-struct Text<'a>(Option<&'a str>);
+pub(crate) struct Text<'a>(pub(crate) Option<&'a str>);
 
 impl Shown<UaString> for Text<'_> {
     fn is_shown(&self, value: &UaString) -> bool {
@@ -32,7 +32,7 @@ impl Shown<XmlElement> for Text<'_> {
 
 /// The bytes of a value, or none.
 #[derive(Clone, Copy)]
-struct Content<'a>(Option<&'a [u8]>);
+pub(crate) struct Content<'a>(pub(crate) Option<&'a [u8]>);
 
 impl Shown<UaBytes> for Content<'_> {
     fn is_shown(&self, value: &UaBytes) -> bool {
@@ -76,8 +76,8 @@ fn are_cut_and_followed(alloc: Global) -> bool {
 
 #[test]
 fn strings_and_xml_elements_are_null_or_empty_or_utf8(rt: HostRuntime) {
-    for (bytes, text) in TEXTS {
-        assert!(rt; is_text_of(rt.alloc(), bytes, text), "{bytes:?}");
+    for (bytes, text) in &TEXTS {
+        assert!(rt; is_text_of(rt.alloc(), bytes, *text), "{bytes:?}");
     }
     assert!(rt; are_cut_and_followed(rt.alloc()));
 }
@@ -91,8 +91,8 @@ const CONTENTS: [(&[u8], Option<&[u8]>); 4] = [
 
 #[test]
 fn byte_strings_are_null_or_empty_or_any_bytes(rt: HostRuntime) {
-    for (bytes, content) in CONTENTS {
-        let want = Content(content);
+    for (bytes, content) in &CONTENTS {
+        let want = Content(*content);
         assert!(rt;
             is_whole::<UaBytes, Content>(rt.alloc(), bytes, &want),
             "{bytes:?}"
@@ -118,7 +118,7 @@ fn is_no_length(alloc: Global, bytes: &[u8]) -> bool {
 
 #[test]
 fn other_negative_and_great_lengths_are_refused(rt: HostRuntime) {
-    for bytes in LENGTHS {
+    for bytes in &LENGTHS {
         assert!(rt; is_no_length(rt.alloc(), bytes), "{bytes:?}");
     }
 }

@@ -117,9 +117,9 @@ impl Shown<Variant> for Single {
 
 #[test]
 fn variants_have_a_value_of_each_kind(rt: HostRuntime) {
-    for (kind, bytes) in SINGLES {
+    for (kind, bytes) in &SINGLES {
         assert!(rt;
-            is_whole::<Variant, Single>(rt.alloc(), bytes, &Single(kind)),
+            is_whole::<Variant, Single>(rt.alloc(), bytes, &Single(*kind)),
             "{bytes:?}"
         );
     }
@@ -232,8 +232,8 @@ impl Shown<Variant> for Shape<'_> {
 #[test]
 fn arrays_have_dimensions_that_fit(rt: HostRuntime) {
     assert!(rt; are_refused::<Variant>(rt.alloc(), &NO_ARRAYS));
-    for (bytes, count, lengths) in ARRAYS {
-        let want = Shape(count, lengths);
+    for (bytes, count, lengths) in &ARRAYS {
+        let want = Shape(*count, *lengths);
         assert!(rt;
             is_whole::<Variant, Shape>(rt.alloc(), bytes, &want),
             "{bytes:?}"
