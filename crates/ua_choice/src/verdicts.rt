@@ -7,7 +7,7 @@ use crate::choosing::{is_one_of, is_same};
 use std::marker::Model;
 use ua_value::{Array, UaString};
 
-/// Over how many texts a verdict is remembered: more than a server has transports.
+/// Over how many texts a verdict is remembered: more transports than servers offer.
 const REMEMBERED: usize = 16;
 
 /// A filter that remembers what it said of the last sixteen different texts, so that one which comes again costs no

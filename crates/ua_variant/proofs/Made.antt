@@ -39,10 +39,6 @@ array_value k (Some es) ds short same shape sound v deep =
     let c = count_items es in
     record { sound = (omega (arith, short.0, c), short.1, all_of k es same, sound, rw c (shape_is (length es) ds shape v)); depth = omega arith }
 
-pub array_depth : (k : Kind) (o : Option (List Element)) (ds : Option (List ℤ)) → depth (array_with k o ds) ≡ suc (list_depth o)
-array_depth k None ds = refl
-array_depth k (Some es) ds = refl
-
 -- ---- an array of plain values has no depth but its own
 
 plain_one : (p : Plain) (e : Element) → kind e ≡ plain p → element_depth e ≡ 0

@@ -50,7 +50,7 @@ items_in o = option_map (λ v. map element v.items) o
 abbrev pub body_of : Body → spec.Variant
 body_of bodies.Null = spec.null
 body_of (bodies.One e) = spec.one (element e)
-body_of (bodies.Array k o ds) = spec.array_with (kind_of k) (items_in o) ds
+body_of (bodies.Array k es ds) = spec.array_with (kind_of k) (items_in es.list) ds
 
 abbrev pub data_with : Option spec.Variant → Stamps → spec.DataValue
 data_with None s = spec.without s

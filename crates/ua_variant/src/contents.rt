@@ -56,7 +56,7 @@ impl Variant {
         match &self.body {
             Body::Null => None,
             Body::One(_) => None,
-            Body::Array(_, elements, _) => match elements {
+            Body::Array(_, elements, _) => match &elements.list {
                 None => None,
                 Some(elements) => Some(elements.as_slice()),
             },
@@ -92,7 +92,7 @@ impl Variant {
         match self.body {
             Body::Null => None,
             Body::One(_) => None,
-            Body::Array(_, elements, _) => elements,
+            Body::Array(_, mut elements, _) => elements.list.take(),
         }
     }
 

@@ -2,10 +2,11 @@
 
 ghost use Rattle.std.specs.Prelude.{◌≡◌, map, IfOk};
 ghost use Rattle.ua_variant.specs.Making.{HoldsNone};
+ghost use Rattle.ua_variant.specs.Values.{variant, data_value};
 ghost use Rattle.ua_variant.specs.View.{element, items_in};
 
 use crate::leaf::Leaf;
-use crate::variant::{Body, DataValue, Element, Variant};
+use crate::variant::{Body, DataValue, Element, Elements, Variant};
 use ua_value::{NoMemory, Wire};
 
 #[cycle(copy)]
@@ -37,13 +38,14 @@ pub(crate) fn copy_variant(value: &Variant) -> Result<Variant, NoMemory>
 }
 
 #[cycle(copy)]
-fn copy_list(items: &Option<Vec<Element>>) -> Result<Option<Vec<Element>>, NoMemory>
-    ensures { IfOk result (λ v. items_in v ≡ items_in items.now) }
+fn copy_list(items: &Elements) -> Result<Elements, NoMemory>
+    ensures { IfOk result (λ v. items_in v.list ≡ items_in items.now.list) }
 {
-    match items {
-        None => Ok(None),
-        Some(items) => Ok(Some(copy_items(items)?)),
-    }
+    let Some(list) = &items.list else {
+        return Ok(Elements { list: None });
+    };
+    let copies = copy_items(list)?;
+    Ok(Elements { list: Some(copies) })
 }
 
 #[cycle(copy)]
@@ -128,16 +130,29 @@ fn copy_element(item: &Element) -> Result<Element, NoMemory>
     ensures { IfOk result (λ e. element e ≡ element item.now) }
 {
     match item {
-        Element::DataValue(value) => {
-            let copy = copy_data(value)?;
-            Ok(Element::DataValue(Box::new(*Box::allocator(value), copy)?))
-        }
-        Element::Variant(value) => {
-            let copy = copy_variant(value)?;
-            Ok(Element::Variant(Box::new(*Box::allocator(value), copy)?))
-        }
+        Element::DataValue(value) => copy_boxed_data(value),
+        Element::Variant(value) => copy_boxed_variant(value),
         _ => copy_plain(item),
     }
+}
+
+/// The frames of these two are apart from that of `copy_element`, so that each level takes the room of one of them.
+#[cycle(copy)]
+#[inline(never)]
+fn copy_boxed_data(value: &Box<DataValue>) -> Result<Element, NoMemory>
+    ensures { IfOk result (λ e. element e ≡ data_value value.now.value) }
+{
+    let copy = copy_data(value)?;
+    Ok(Element::DataValue(Box::new(*Box::allocator(value), copy)?))
+}
+
+#[cycle(copy)]
+#[inline(never)]
+fn copy_boxed_variant(value: &Box<Variant>) -> Result<Element, NoMemory>
+    ensures { IfOk result (λ e. element e ≡ variant value.now.value) }
+{
+    let copy = copy_variant(value)?;
+    Ok(Element::Variant(Box::new(*Box::allocator(value), copy)?))
 }
 
 #[cycle(copy)]

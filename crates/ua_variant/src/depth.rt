@@ -46,7 +46,13 @@ impl Variant {
         let inside = match &body {
             Body::Null => 0,
             Body::One(one) => one.depth(),
-            Body::Array(kind, items, _) => { if kind.is_plain() { 0 } else { levels_in(items) } }
+            Body::Array(kind, items, _) => {
+                if kind.is_plain() {
+                    0
+                } else {
+                    levels_in(&items.list)
+                }
+            }
         };
         Variant {
             levels: inside + 1,

@@ -16,7 +16,7 @@ use crate::picoseconds::Picoseconds;
 use crate::reading::count_in;
 use crate::shape::is_shape_of;
 use crate::stamps::Stamps;
-use crate::variant::{Body, DataValue, Element, Variant};
+use crate::variant::{Body, DataValue, Element, Elements, Variant};
 use ua_kind::{DEEPEST, Kind};
 use ua_value::plumbing::let_go;
 use ua_value::{Array, DateTime, StatusCode, Wire};
@@ -141,6 +141,7 @@ impl Variant {
             let_go((elements, dimensions));
             return Err(VariantFault::TooDeep);
         }
+        let elements = Elements { list: elements };
         Ok(Variant {
             levels: inside + 1,
             body: Body::Array(kind, elements, dimensions),

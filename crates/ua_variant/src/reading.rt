@@ -18,7 +18,7 @@ use crate::element::leaf_front;
 use crate::leaves::each_leaf;
 use crate::shape::shape_front;
 use crate::stamps::Stamps;
-use crate::variant::{Body, DataValue, Element, Variant};
+use crate::variant::{Body, DataValue, Element, Elements, Variant};
 use std::alloc::Global;
 use ua_kind::Kind;
 use ua_value::ReadFault;
@@ -138,10 +138,10 @@ fn array_within(
     ensures shorter { IfOk result (λ x. length x.1.now ≤ length input.now) }
     ensures counted { CountsMore ((unsigned w32).grammar.front input.now) → result ≡ Err ReadFault.Refused }
 {
-    let (items, rest) = list_within(alloc, kind, input, allowance)?;
-    let count = count_in(&items);
+    let (elements, rest) = list_within(alloc, kind, input, allowance)?;
+    let count = count_in(&elements.list);
     let (lengths, rest) = shape_front(alloc, flagged, count, rest)?;
-    Ok((Body::Array(kind, items, lengths), rest))
+    Ok((Body::Array(kind, elements, lengths), rest))
 }
 
 /// How many elements there are; none where the array is null.
@@ -161,19 +161,19 @@ fn list_within(
     kind: Kind,
     input: &[u8],
     allowance: u8,
-) -> Result<(Option<Vec<Element>>, &[u8]), ReadFault>
+) -> Result<(Elements, &[u8]), ReadFault>
     requires short { length input.now ≤ input_limit }
     requires allowed { allowance < deepest }
-    ensures gives { Gives (λ x. (items_in x.0, x.1.now)) result ((list (elements_within allowance (kind_of kind))).front input.now) }
+    ensures gives { Gives (λ x. (items_in x.0.list, x.1.now)) result ((list (elements_within allowance (kind_of kind))).front input.now) }
     ensures shorter { IfOk result (λ x. length x.1.now ≤ length input.now) }
     ensures counted { CountsMore ((unsigned w32).grammar.front input.now) → result ≡ Err ReadFault.Refused }
-    ensures few { IfOk result (λ x. count_of (items_in x.0) < 2 ^ 31) }
+    ensures few { IfOk result (λ x. count_of (items_in x.0.list) < 2 ^ 31) }
 {
     let Some((count, rest)) = front_u32(input) else {
         return Err(ReadFault::Refused);
     };
     if count == u32::MAX {
-        return Ok((None, rest));
+        return Ok((Elements { list: None }, rest));
     }
     if count > LONGEST {
         return Err(ReadFault::Refused);
@@ -182,7 +182,8 @@ fn list_within(
         return Err(ReadFault::Refused);
     }
     let (items, rest) = each_within(alloc, kind, count, rest, allowance)?;
-    Ok((Some(items), rest))
+    let elements = Elements { list: Some(items) };
+    Ok((elements, rest))
 }
 
 /// As many elements as the count says, one after another.

@@ -5,6 +5,7 @@ use crate::extension::ExtensionObject;
 use crate::stamps::Stamps;
 use std::marker::Model;
 use ua_kind::Kind;
+use ua_value::plumbing::let_go;
 use ua_value::{
     Array, DateTime, DoubleBits, ExpandedNodeId, FloatBits, Guid, LocalizedText, NodeId,
     QualifiedName, StatusCode, UaBytes, UaString, XmlElement,
@@ -72,7 +73,45 @@ pub(crate) enum Body {
     Null,
     One(Element),
     /// Elements of the kind, or null, and their dimensions; null dimensions are none.
-    Array(Kind, Option<Vec<Element>>, Array<i32>),
+    Array(Kind, Elements, Array<i32>),
+}
+
+/// The elements of an array, all of one kind, or null.
+#[cycle(variant)]
+#[derive(Debug)]
+pub(crate) struct Elements {
+    pub(crate) list: Option<Vec<Element>>,
+}
+
+impl Drop for Elements {
+    /// Elements that own nothing are not let go of one by one.
+    #[cycle(variant)]
+    fn drop(self) {
+        let Elements { list } = self;
+        let Some(list) = list else {
+            return;
+        };
+        if own_nothing(&list) {
+            forget_each(list);
+        } else {
+            let_go(list);
+        }
+    }
+}
+
+/// The first of elements of one kind owns nothing, so none does.
+fn own_nothing(list: &[Element]) -> bool {
+    match list.first() {
+        None => true,
+        Some(first) => first.owns_nothing(),
+    }
+}
+
+/// Lets go of a list, and of nothing that is in it.
+fn forget_each<T: Drop>(list: Vec<T>) {
+    for item in list {
+        std::mem::forget(item);
+    }
 }
 
 /// Nothing, one value, or an array of values of one kind (OPC 10000-6, 5.2.2.16).

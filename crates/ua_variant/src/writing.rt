@@ -50,7 +50,7 @@ pub(crate) fn emit_variant<S: Sink>(value: &Variant, out: &mut S) -> Result<(), 
         }
         Body::Array(kind, items, lengths) => {
             out.put(&[array_head(*kind, lengths)])?;
-            emit_list(items, out)?;
+            emit_list(&items.list, out)?;
             emit_shape(lengths, out)?;
             Ok(())
         }
@@ -154,7 +154,7 @@ pub(crate) fn variant_len(value: &Variant) -> u64
     match &value.body {
         Body::Null => 1,
         Body::One(one) => 1 + element_len(one),
-        Body::Array(_, items, lengths) => 1 + list_len(items) + shape_len(lengths),
+        Body::Array(_, items, lengths) => 1 + list_len(&items.list) + shape_len(lengths),
     }
 }
 
