@@ -1,11 +1,11 @@
 //! Input that came and is not used yet, which lends its frames.
 
-ghost use Rattle.std.specs.Prelude.{◌≡◌, ◌==◌, ℕ, ◌+◌, ◌-◌, ◌<◌, ◌≤◌, [], ◌++◌, length, take, drop, min, Ok, None, vec_len, vec_capacity, IfOk, IfErr, OnOk, IfSome, OnSome, IfNone};
+ghost use Rattle.std.specs.Prelude.{◌≡◌, ◌==◌, ℕ, ◌+◌, ◌-◌, ◌<◌, ◌≤◌, [], ◌++◌, length, take, drop, min, true, Ok, None, vec_len, vec_capacity, IfOk, IfErr, OnOk, IfSome, OnSome, IfNone};
 ghost use Rattle.ua_frame.specs.Layout.{size_of, IsFrame, IsFrameOf, frame_bytes};
 ghost use Rattle.ua_frame.specs.HeaderRows.{header_fault};
 ghost use Rattle.ua_frame.specs.Buffer.{empty_buffer};
 
-use crate::frame::{Frame, frame_at, size_in};
+use crate::frame::{Frame, HEADER, frame_at, size_in};
 use std::alloc::Global;
 use std::marker::Model;
 use ua_value::NoMemory;
@@ -19,18 +19,21 @@ pub struct FrameBuf {
     bytes: Vec<u8>,
     start: usize,
     capacity: usize,
+    /// Bytes of the frame at the front, where its header is known to be in order under `limit`; else 0.
+    awaited: usize,
+    limit: u32,
 }
 
 impl Model for FrameBuf {
     ghost use Rattle.std.specs.Prelude.{◌≤◌, drop, length, vec_capacity};
-    ghost use Rattle.ua_frame.specs.Buffer.{Buffered, IsRoom};
+    ghost use Rattle.ua_frame.specs.Buffer.{Buffered, IsRoom, IsAwaited};
     ghost use Rattle.ua_frame.specs.Held.{IsAll};
 
     ghost Value = { Buffered };
 
     ghost view = { λ a. record { bytes = drop a.start a.bytes.items; capacity = a.capacity } };
 
-    ghost invariant = { λ a. IsRoom a.start (length a.bytes.items) a.capacity (vec_capacity a.bytes) (IsAll a) };
+    ghost invariant = { λ a. IsRoom a.start (length a.bytes.items) a.capacity (vec_capacity a.bytes) (IsAwaited a.awaited a.limit (drop a.start a.bytes.items)) (IsAll a) };
 }
 
 impl FrameBuf {
@@ -50,6 +53,8 @@ impl FrameBuf {
             bytes,
             start: 0,
             capacity,
+            awaited: 0,
+            limit: 0,
         })
     }
 
@@ -106,6 +111,32 @@ impl FrameBuf {
         frame_at(&self.bytes[self.start..], limit)
     }
 
+    /// Remembers how long the frame at the front is, for [`FrameBuf::awaits`]. The caller knows that its header is in
+    /// order, as `first` told. It takes no memory, and nothing that is held changes.
+    pub fn remember(&mut self, limit: u32)
+        requires { header_fault limit self.old.bytes ≡ None }
+        ensures { self.new ≡ self.old }
+    {
+        let held = &self.bytes[self.start..];
+        self.awaited = if held.len() < HEADER as usize {
+            0
+        } else {
+            size_in(held) as usize
+        };
+        self.limit = limit;
+    }
+
+    /// Whether the frame at the front is known to need more bytes, without another look at them: its length was
+    /// remembered under this limit, and so many are not there. Where it is not known, `first` says. It takes no memory.
+    #[inline(always)]
+    pub fn awaits(&self, limit: u32) -> bool
+        ensures passed { result ≡ true → header_fault limit self.now.bytes ≡ None }
+        ensures none { result ≡ true → (n : ℕ) → n ≤ length self.now.bytes → IsFrame (take n self.now.bytes) → ⊥ }
+        ensures room { result ≡ true → limit ≤ self.now.capacity → length self.now.bytes < self.now.capacity }
+    {
+        self.limit == limit && self.bytes.len() - self.start < self.awaited
+    }
+
     /// Drops the frame that the bytes begin with, and nothing else. The caller knows that there is one, as `first`
     /// told. It takes no memory and moves no byte.
     pub fn drop_first(&mut self)
@@ -113,6 +144,7 @@ impl FrameBuf {
         ensures bytes { self.new.bytes ≡ drop (size_of self.old.bytes) self.old.bytes }
         ensures capacity { self.new.capacity ≡ self.old.capacity }
     {
+        self.awaited = 0;
         self.start += size_in(&self.bytes[self.start..]) as usize;
         if self.start == self.bytes.len() {
             self.bytes.clear();

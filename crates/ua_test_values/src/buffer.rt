@@ -48,6 +48,27 @@ fn takes_what_fits(buffer: &mut FrameBuf) -> bool {
     is_filled(buffer) && is_emptied(buffer)
 }
 
+/// Whether it is remembered that the first frame needs more bytes, under the limit alone by which it was judged.
+fn is_remembered(buffer: &mut FrameBuf) -> bool {
+    match buffer.first(8192) {
+        Ok(None) => {
+            buffer.remember(8192);
+            buffer.awaits(8192) && !buffer.awaits(8193)
+        }
+        _ => false,
+    }
+}
+
+/// Whether a Hello that comes in two pieces is awaited between them, and then no more.
+fn awaits_the_rest(buffer: &mut FrameBuf) -> bool {
+    let (front, rest) = HELLO.split_at(20);
+    buffer.push(front) == 20
+        && is_remembered(buffer)
+        && buffer.push(rest) == 36
+        && !buffer.awaits(8192)
+        && lends_hello(buffer)
+}
+
 fn is_filled_and_emptied(alloc: Global) -> bool {
     match FrameBuf::with_capacity(alloc, 8192) {
         Ok(mut buffer) => takes_what_fits(&mut buffer),
@@ -55,7 +76,19 @@ fn is_filled_and_emptied(alloc: Global) -> bool {
     }
 }
 
+fn takes_a_frame_in_two_pieces(alloc: Global) -> bool {
+    match FrameBuf::with_capacity(alloc, 8192) {
+        Ok(mut buffer) => awaits_the_rest(&mut buffer),
+        Err(_) => false,
+    }
+}
+
 #[test]
 fn buffer_takes_what_fits_and_lends_its_first_frame(rt: HostRuntime) {
     assert!(rt; is_filled_and_emptied(rt.alloc()));
+}
+
+#[test]
+fn buffer_remembers_how_long_its_first_frame_is(rt: HostRuntime) {
+    assert!(rt; takes_a_frame_in_two_pieces(rt.alloc()));
 }

@@ -50,6 +50,10 @@ impl Wire for FloatBits {
         emit_fixed::<FloatBits, S, 4>(items, out)
     }
 
+    fn most_in(bytes: usize) -> usize {
+        bytes / 4
+    }
+
     ghost laws = { lawful_float_bits };
 }
 
@@ -110,6 +114,10 @@ impl Wire for DoubleBits {
 
     fn emit_items<S: Sink>(items: &[DoubleBits], out: &mut S) -> Result<(), NoMemory> {
         emit_fixed::<DoubleBits, S, 8>(items, out)
+    }
+
+    fn most_in(bytes: usize) -> usize {
+        bytes / 8
     }
 
     ghost laws = { lawful_double_bits };

@@ -36,5 +36,9 @@ impl Wire for bool {
         }
     }
 
+    fn most_in(bytes: usize) -> usize {
+        bytes
+    }
+
     ghost laws = { lawful_bool };
 }

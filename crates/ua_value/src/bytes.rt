@@ -181,5 +181,9 @@ impl Wire for UaBytes {
         }
     }
 
+    fn most_in(bytes: usize) -> usize {
+        bytes / 4
+    }
+
     ghost laws = { lawful_byte_string };
 }

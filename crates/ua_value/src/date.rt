@@ -50,6 +50,10 @@ impl Wire for DateTime {
         emit_fixed::<DateTime, S, 8>(items, out)
     }
 
+    fn most_in(bytes: usize) -> usize {
+        bytes / 8
+    }
+
     ghost laws = { lawful_date_time };
 }
 

@@ -96,5 +96,9 @@ impl Wire for ExpandedNodeId {
         ))
     }
 
+    fn most_in(bytes: usize) -> usize {
+        bytes / 2
+    }
+
     ghost laws = { lawful_expanded };
 }

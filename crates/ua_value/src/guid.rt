@@ -88,6 +88,10 @@ impl Wire for Guid {
         ))
     }
 
+    fn most_in(bytes: usize) -> usize {
+        bytes / 16
+    }
+
     ghost laws = { lawful_guid };
 }
 

@@ -47,6 +47,10 @@ impl Wire for i8 {
         emit_fixed::<i8, S, 1>(items, out)
     }
 
+    fn most_in(bytes: usize) -> usize {
+        bytes
+    }
+
     ghost laws = { lawful_signed w8 wide_8 };
 }
 
@@ -100,6 +104,10 @@ impl Wire for i16 {
 
     fn emit_items<S: Sink>(items: &[i16], out: &mut S) -> Result<(), NoMemory> {
         emit_fixed::<i16, S, 2>(items, out)
+    }
+
+    fn most_in(bytes: usize) -> usize {
+        bytes / 2
     }
 
     ghost laws = { lawful_signed w16 wide_16 };
@@ -160,6 +168,10 @@ impl Wire for i32 {
         emit_fixed::<i32, S, 4>(items, out)
     }
 
+    fn most_in(bytes: usize) -> usize {
+        bytes / 4
+    }
+
     ghost laws = { lawful_signed w32 wide_32 };
 }
 
@@ -216,6 +228,10 @@ impl Wire for i64 {
 
     fn emit_items<S: Sink>(items: &[i64], out: &mut S) -> Result<(), NoMemory> {
         emit_fixed::<i64, S, 8>(items, out)
+    }
+
+    fn most_in(bytes: usize) -> usize {
+        bytes / 8
     }
 
     ghost laws = { lawful_signed w64 wide_64 };

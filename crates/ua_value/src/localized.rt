@@ -92,5 +92,9 @@ impl Wire for LocalizedText {
         Ok((LocalizedText { locale, text }, rest))
     }
 
+    fn most_in(bytes: usize) -> usize {
+        bytes
+    }
+
     ghost laws = { lawful_localized };
 }

@@ -51,5 +51,9 @@ impl Wire for QualifiedName {
         ))
     }
 
+    fn most_in(bytes: usize) -> usize {
+        bytes / 6
+    }
+
     ghost laws = { lawful_qualified_name };
 }

@@ -84,6 +84,10 @@ impl Wire for NodeId {
         }
     }
 
+    fn most_in(bytes: usize) -> usize {
+        bytes / 2
+    }
+
     ghost laws = { lawful_node };
 }
 

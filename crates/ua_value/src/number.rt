@@ -73,6 +73,10 @@ impl Wire for u8 {
         emit_fixed::<u8, S, 1>(items, out)
     }
 
+    fn most_in(bytes: usize) -> usize {
+        bytes
+    }
+
     ghost laws = { lawful_unsigned w8 wide_8 };
 }
 
@@ -128,6 +132,10 @@ impl Wire for u16 {
         emit_fixed::<u16, S, 2>(items, out)
     }
 
+    fn most_in(bytes: usize) -> usize {
+        bytes / 2
+    }
+
     ghost laws = { lawful_unsigned w16 wide_16 };
 }
 
@@ -181,6 +189,10 @@ impl Wire for u32 {
 
     fn emit_items<S: Sink>(items: &[u32], out: &mut S) -> Result<(), NoMemory> {
         emit_fixed::<u32, S, 4>(items, out)
+    }
+
+    fn most_in(bytes: usize) -> usize {
+        bytes / 4
     }
 
     ghost laws = { lawful_unsigned w32 wide_32 };
@@ -239,6 +251,10 @@ impl Wire for u64 {
 
     fn emit_items<S: Sink>(items: &[u64], out: &mut S) -> Result<(), NoMemory> {
         emit_fixed::<u64, S, 8>(items, out)
+    }
+
+    fn most_in(bytes: usize) -> usize {
+        bytes / 8
     }
 
     ghost laws = { lawful_unsigned w64 wide_64 };

@@ -116,6 +116,10 @@ impl Wire for StatusCode {
         emit_fixed::<StatusCode, S, 4>(items, out)
     }
 
+    fn most_in(bytes: usize) -> usize {
+        bytes / 4
+    }
+
     ghost laws = { lawful_status_code };
 }
 

@@ -33,12 +33,30 @@ impl Model for UaString {
     ghost invariant = { λ s. IfSome s.text (λ t. string_len t ≤ longest) };
 }
 
+/// Bytes from which on a text is tested 64 at a time.
+const LONG: usize = 64;
+
 /// The text that the bytes are, if they are UTF-8.
 #[tactic(auto, using(crate::proofs::Utf8::utf8_yes, crate::proofs::Utf8::utf8_no))]
 fn text_of(bytes: &[u8]) -> Option<&str>
     ensures { option_copied result ≡ (if is_utf8 bytes.now then Some bytes.now else None) }
 {
-    match simdutf8::compat::from_utf8(bytes) {
+    if bytes.len() >= LONG {
+        return long_text_of(bytes);
+    }
+    match std::str::from_utf8(bytes) {
+        Ok(text) => Some(text),
+        Err(_) => None,
+    }
+}
+
+/// The same of a long text, in a frame of its own: the test keeps its blocks there.
+#[inline(never)]
+#[tactic(auto, using(crate::proofs::Utf8::utf8_yes, crate::proofs::Utf8::utf8_no))]
+fn long_text_of(bytes: &[u8]) -> Option<&str>
+    ensures { option_copied result ≡ (if is_utf8 bytes.now then Some bytes.now else None) }
+{
+    match simdutf8::basic::from_utf8(bytes) {
         Ok(text) => Some(text),
         Err(_) => None,
     }
@@ -195,6 +213,10 @@ impl Wire for UaString {
                 rest,
             )),
         }
+    }
+
+    fn most_in(bytes: usize) -> usize {
+        bytes / 4
     }
 
     ghost laws = { lawful_string };

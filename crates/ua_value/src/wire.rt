@@ -113,6 +113,15 @@ pub trait Wire: Sized + Drop {
         }
     }
 
+    /// How many values so many bytes can spell at the most, where that is told by the shortest spelling; else 0. A list is
+    /// read into room for no more than these, and grows with those that follow.
+    fn most_in(bytes: usize) -> usize
+        ensures { result ≤ bytes }
+    {
+        let _bytes = bytes;
+        0
+    }
+
     /// So many values, one after another, and what follows them (OPC 10000-6, 5.2.5).
     ///
     /// # Errors
@@ -123,7 +132,8 @@ pub trait Wire: Sized + Drop {
         ensures gives { Gives (λ x. (x.0.items, x.1.now)) result (items_at format.grammar count input.now) }
         ensures shorter { IfOk result (λ x. length x.1.now ≤ length input.now) }
     {
-        let mut items = Vec::new(alloc);
+        let room = Self::most_in(input.len()).min(count as usize);
+        let mut items = Vec::with_capacity(alloc, room)?;
         let mut rest = input;
         for _ in 0..count {
             let (item, after) = Self::read_front(alloc, rest)?;

@@ -125,5 +125,9 @@ impl Wire for XmlElement {
         Ok((XmlElement { text }, rest))
     }
 
+    fn most_in(bytes: usize) -> usize {
+        bytes / 4
+    }
+
     ghost laws = { lawful_xml_element };
 }

@@ -66,3 +66,13 @@ is_data d input v rest deep fits short e =
     let t = (data_within_reads d).takes input v rest fits e in
     let w = data_within_spells d v t.text t.spelled in
     record { sound = data_sound v t.text (omega (arith, ap length t.parts, length-append t.text rest)) w.spells; depth = omega (arith, w.depth) }
+
+with_first : (m : ℕ) (input : List ℕ) → m < 256 → IsBytes input → IsBytes (m ∷ input)
+with_first m input lt fits zero = lt
+with_first m input lt fits (suc i) = fits i
+
+-- and what is read behind a mask is one
+pub is_data_behind : (d m : ℕ) (input : List ℕ) (v : DataValue) (rest : List ℕ) → d < deepest → m < 256 → IsBytes input → length input < input_limit
+    → (behind_mask (within d) m).front input ≡ Some (v, rest) → IsDataValue v
+unfolding within
+is_data_behind d m input v rest deep lt fits short e = is_data (suc d) (m ∷ input) v rest (omega (arith, deep)) (with_first m input lt fits) (omega (arith, short)) e

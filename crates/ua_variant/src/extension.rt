@@ -124,5 +124,9 @@ impl Wire for ExtensionObject {
         Ok((ExtensionObject { type_id, body }, rest))
     }
 
+    fn most_in(bytes: usize) -> usize {
+        bytes / 3
+    }
+
     ghost laws = { lawful_extension_object };
 }

@@ -1,6 +1,6 @@
 //! Types of plain values, as what stands in a Variant.
 
-ghost use Rattle.std.specs.Prelude.{◌≡◌, ◌≤◌, ℕ};
+ghost use Rattle.std.specs.Prelude.{◌≡◌, ℕ};
 ghost use Rattle.ua_variant.specs.Kinds as kinds;
 ghost use Rattle.ua_variant.specs.Values as values;
 ghost use Rattle.ua_variant.specs.Reading.{leaf_of};
@@ -21,11 +21,6 @@ pub(crate) trait Leaf: Wire {
     /// The value as an element.
     fn into_element(self) -> Element
         ensures { element result ≡ wrap self };
-
-    /// How many values so many bytes can spell, where each takes the same number of bytes. It is 0 where they do not:
-    /// then the bytes do not tell how many values they hold, and a list of them grows as they come.
-    fn most_in(bytes: usize) -> usize
-        ensures { result ≤ bytes };
 }
 
 impl Leaf for bool {
@@ -34,10 +29,6 @@ impl Leaf for bool {
     #[inline(always)]
     fn into_element(self) -> Element {
         Element::Boolean(self)
-    }
-
-    fn most_in(bytes: usize) -> usize {
-        bytes
     }
 }
 
@@ -48,10 +39,6 @@ impl Leaf for i8 {
     fn into_element(self) -> Element {
         Element::SByte(self)
     }
-
-    fn most_in(bytes: usize) -> usize {
-        bytes
-    }
 }
 
 impl Leaf for u8 {
@@ -60,10 +47,6 @@ impl Leaf for u8 {
     #[inline(always)]
     fn into_element(self) -> Element {
         Element::Byte(self)
-    }
-
-    fn most_in(bytes: usize) -> usize {
-        bytes
     }
 }
 
@@ -74,10 +57,6 @@ impl Leaf for i16 {
     fn into_element(self) -> Element {
         Element::Int16(self)
     }
-
-    fn most_in(bytes: usize) -> usize {
-        bytes / 2
-    }
 }
 
 impl Leaf for u16 {
@@ -86,10 +65,6 @@ impl Leaf for u16 {
     #[inline(always)]
     fn into_element(self) -> Element {
         Element::UInt16(self)
-    }
-
-    fn most_in(bytes: usize) -> usize {
-        bytes / 2
     }
 }
 
@@ -100,10 +75,6 @@ impl Leaf for i32 {
     fn into_element(self) -> Element {
         Element::Int32(self)
     }
-
-    fn most_in(bytes: usize) -> usize {
-        bytes / 4
-    }
 }
 
 impl Leaf for u32 {
@@ -112,10 +83,6 @@ impl Leaf for u32 {
     #[inline(always)]
     fn into_element(self) -> Element {
         Element::UInt32(self)
-    }
-
-    fn most_in(bytes: usize) -> usize {
-        bytes / 4
     }
 }
 
@@ -126,10 +93,6 @@ impl Leaf for i64 {
     fn into_element(self) -> Element {
         Element::Int64(self)
     }
-
-    fn most_in(bytes: usize) -> usize {
-        bytes / 8
-    }
 }
 
 impl Leaf for u64 {
@@ -138,10 +101,6 @@ impl Leaf for u64 {
     #[inline(always)]
     fn into_element(self) -> Element {
         Element::UInt64(self)
-    }
-
-    fn most_in(bytes: usize) -> usize {
-        bytes / 8
     }
 }
 
@@ -152,10 +111,6 @@ impl Leaf for FloatBits {
     fn into_element(self) -> Element {
         Element::Float(self)
     }
-
-    fn most_in(bytes: usize) -> usize {
-        bytes / 4
-    }
 }
 
 impl Leaf for DoubleBits {
@@ -164,10 +119,6 @@ impl Leaf for DoubleBits {
     #[inline(always)]
     fn into_element(self) -> Element {
         Element::Double(self)
-    }
-
-    fn most_in(bytes: usize) -> usize {
-        bytes / 8
     }
 }
 
@@ -178,10 +129,6 @@ impl Leaf for UaString {
     fn into_element(self) -> Element {
         Element::String(self)
     }
-
-    fn most_in(_bytes: usize) -> usize {
-        0
-    }
 }
 
 impl Leaf for DateTime {
@@ -190,10 +137,6 @@ impl Leaf for DateTime {
     #[inline(always)]
     fn into_element(self) -> Element {
         Element::DateTime(self)
-    }
-
-    fn most_in(bytes: usize) -> usize {
-        bytes / 8
     }
 }
 
@@ -204,10 +147,6 @@ impl Leaf for Guid {
     fn into_element(self) -> Element {
         Element::Guid(self)
     }
-
-    fn most_in(bytes: usize) -> usize {
-        bytes / 16
-    }
 }
 
 impl Leaf for UaBytes {
@@ -216,10 +155,6 @@ impl Leaf for UaBytes {
     #[inline(always)]
     fn into_element(self) -> Element {
         Element::ByteString(self)
-    }
-
-    fn most_in(_bytes: usize) -> usize {
-        0
     }
 }
 
@@ -230,10 +165,6 @@ impl Leaf for XmlElement {
     fn into_element(self) -> Element {
         Element::XmlElement(self)
     }
-
-    fn most_in(_bytes: usize) -> usize {
-        0
-    }
 }
 
 impl Leaf for NodeId {
@@ -242,10 +173,6 @@ impl Leaf for NodeId {
     #[inline(always)]
     fn into_element(self) -> Element {
         Element::NodeId(self)
-    }
-
-    fn most_in(_bytes: usize) -> usize {
-        0
     }
 }
 
@@ -256,10 +183,6 @@ impl Leaf for ExpandedNodeId {
     fn into_element(self) -> Element {
         Element::ExpandedNodeId(self)
     }
-
-    fn most_in(_bytes: usize) -> usize {
-        0
-    }
 }
 
 impl Leaf for StatusCode {
@@ -268,10 +191,6 @@ impl Leaf for StatusCode {
     #[inline(always)]
     fn into_element(self) -> Element {
         Element::StatusCode(self)
-    }
-
-    fn most_in(bytes: usize) -> usize {
-        bytes / 4
     }
 }
 
@@ -282,10 +201,6 @@ impl Leaf for QualifiedName {
     fn into_element(self) -> Element {
         Element::QualifiedName(self)
     }
-
-    fn most_in(_bytes: usize) -> usize {
-        0
-    }
 }
 
 impl Leaf for LocalizedText {
@@ -295,10 +210,6 @@ impl Leaf for LocalizedText {
     fn into_element(self) -> Element {
         Element::LocalizedText(self)
     }
-
-    fn most_in(_bytes: usize) -> usize {
-        0
-    }
 }
 
 impl Leaf for ExtensionObject {
@@ -307,9 +218,5 @@ impl Leaf for ExtensionObject {
     #[inline(always)]
     fn into_element(self) -> Element {
         Element::ExtensionObject(self)
-    }
-
-    fn most_in(_bytes: usize) -> usize {
-        0
     }
 }

@@ -18,8 +18,8 @@ use ua_value::{
     ReadFault, StatusCode, UaBytes, UaString, XmlElement,
 };
 
-/// As many values of the type as the count says, one after another. Where all values take the same number of bytes, room
-/// for them is asked for once, and for no more than the bytes that are there can hold.
+/// As many values of the type as the count says, one after another. Room for them is asked for once, and for no more than
+/// the bytes that are there can hold.
 #[inline(never)]
 fn each_of<T: Leaf>(
     alloc: Global,

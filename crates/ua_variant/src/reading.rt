@@ -1,6 +1,6 @@
 //! Reading variants and data values from the front of bytes, to a depth.
 
-ghost use Rattle.std.specs.Prelude.{◌≡◌, ◌≤◌, ◌<◌, ◌^◌, length, map, true, Err, IfOk};
+ghost use Rattle.std.specs.Prelude.{◌≡◌, ◌≤◌, ◌<◌, ◌^◌, length, map, true, false, Err, IfOk};
 ghost use Rattle.ua_value.specs.Format.{Gives, input_limit};
 ghost use Rattle.ua_value.specs.Number.{unsigned};
 ghost use Rattle.ua_value.specs.Array.{items_at, CountsMore};
@@ -8,10 +8,11 @@ ghost use Rattle.ua_value.specs.Localized.{has};
 ghost use Rattle.std.specs.Int.{w32};
 ghost use Rattle.ua_value.specs.Sequence.{made};
 ghost use Rattle.ua_variant.specs.Kinds.{variant_kind, data_kind, info_kind, kind_number};
-ghost use Rattle.ua_variant.specs.Values.{deepest, count_of};
+ghost use Rattle.ua_variant.specs.Values.{deepest, count_of, without};
 ghost use Rattle.ua_variant.specs.Chains.{list};
 ghost use Rattle.ua_variant.specs.Reading.{one_of, leaves, singles, arrays, behind_head, behind_mask, within, data_within, elements_within, VariantCountsMore, DataCountsMore};
-ghost use Rattle.ua_variant.specs.View.{kind_of, element, items_in, body_of, data_with};
+ghost use Rattle.ua_variant.specs.Stamps.{stamps};
+ghost use Rattle.ua_variant.specs.View.{kind_of, element, items_in, body_of};
 
 use crate::diagnostic::DiagnosticInfo;
 use crate::element::leaf_front;
@@ -20,12 +21,12 @@ use crate::shape::shape_front;
 use crate::stamps::Stamps;
 use crate::variant::{Body, DataValue, Element, Elements, Variant};
 use std::alloc::Global;
-use ua_kind::Kind;
+use ua_kind::{DEEPEST, Kind};
 use ua_value::ReadFault;
 use ua_value::plumbing::{LONGEST, front_u32};
 
-/// Room for so many elements that hold others is made at once. More is made as they come: a list inside a list may say a
-/// count that is never met.
+/// Room for so many elements that hold others is made at once in a list inside a list. More is made as they come: it may
+/// say a count that is never met, and so may each list around it.
 const FEW: u32 = 4;
 
 /// The Variant at the front that is at most so deep, and what follows it.
@@ -205,7 +206,9 @@ fn each_within(
     if kind.is_plain() {
         return each_leaf(alloc, kind, count, input);
     }
-    let mut items = Vec::with_capacity(alloc, count.min(FEW) as usize)?;
+    let is_outermost = allowance + 1 == DEEPEST;
+    let room = if is_outermost { count } else { count.min(FEW) };
+    let mut items = Vec::with_capacity(alloc, room as usize)?;
     let mut rest = input;
     for _ in 0..count {
         // `push` could hand the element back, so it would copy it once more for each element.
@@ -300,32 +303,46 @@ pub(crate) fn data_within(
     let [mask, rest @ ..] = input else {
         return Err(ReadFault::Refused);
     };
-    let ((value, stamps), rest) = parts_behind(alloc, *mask, rest, allowance - 1)?;
-    Ok((DataValue::of(value, stamps), rest))
-}
-
-/// What follows the first byte of a DataValue whose value is at most so deep.
-#[cycle(read)]
-fn parts_behind(
-    alloc: Global,
-    mask: u8,
-    input: &[u8],
-    allowance: u8,
-) -> Result<((Option<Variant>, Stamps), &[u8]), ReadFault>
-    requires short { length input.now ≤ input_limit }
-    requires allowed { allowance < deepest }
-    ensures gives { Gives (λ x. (data_with x.0.0 x.0.1, x.1.now)) result ((behind_mask (within allowance) mask).front input.now) }
-    ensures shorter { IfOk result (λ x. length x.1.now ≤ length input.now) }
-    ensures counted { (has mask 0x01 ≡ true) × VariantCountsMore input.now → result ≡ Err ReadFault.Refused }
-{
+    let mask = *mask;
     if mask & 0xc0 != 0 {
         return Err(ReadFault::Refused);
     }
     if mask & 0x01 == 0 {
-        let (stamps, rest) = Stamps::read_behind(alloc, mask, input)?;
-        return Ok(((None, stamps), rest));
+        return bare_data(alloc, mask, rest);
     }
+    valued_data(alloc, mask, rest, allowance - 1)
+}
+
+/// What follows the first byte of a DataValue without a value. It stands by itself, as the next does: where both meet, a
+/// whole DataValue would be copied once more, byte by byte.
+#[inline(never)]
+fn bare_data(alloc: Global, mask: u8, input: &[u8]) -> Result<(DataValue, &[u8]), ReadFault>
+    requires short { length input.now < input_limit }
+    requires mask { (has mask 0xc0 ≡ false) × (has mask 0x01 ≡ false) }
+    ensures gives { Gives (λ x. (x.0, x.1.now)) result ((made without (stamps.behind mask)).front input.now) }
+    ensures shorter { IfOk result (λ x. length x.1.now ≤ length input.now) }
+{
+    let (stamps, rest) = Stamps::read_behind(alloc, mask, input)?;
+    Ok((DataValue::of(None, stamps), rest))
+}
+
+/// What follows the first byte of a DataValue with a value, which is at most so deep.
+#[cycle(read)]
+#[inline(never)]
+fn valued_data(
+    alloc: Global,
+    mask: u8,
+    input: &[u8],
+    allowance: u8,
+) -> Result<(DataValue, &[u8]), ReadFault>
+    requires short { length input.now < input_limit }
+    requires allowed { allowance < deepest }
+    requires mask { (has mask 0xc0 ≡ false) × (has mask 0x01 ≡ true) }
+    ensures gives { Gives (λ x. (x.0, x.1.now)) result ((behind_mask (within allowance) mask).front input.now) }
+    ensures shorter { IfOk result (λ x. length x.1.now ≤ length input.now) }
+    ensures counted { VariantCountsMore input.now → result ≡ Err ReadFault.Refused }
+{
     let (value, rest) = variant_within(alloc, input, allowance)?;
     let (stamps, rest) = Stamps::read_behind(alloc, mask, rest)?;
-    Ok(((Some(value), stamps), rest))
+    Ok((DataValue::of(Some(value), stamps), rest))
 }

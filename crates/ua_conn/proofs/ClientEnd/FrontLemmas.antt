@@ -1,5 +1,5 @@
 -- What stands at the front of some bytes that came to a client, as it was found there.
-use Rattle.std.proofs.Common.{◌≡◌, ℕ, ◌≤◌, true, List, length, take, Some, None, Result, Ok, Err, refl, ap, ◌∙◌, arith}
+use Rattle.std.proofs.Common.{◌≡◌, ℕ, ◌≤◌, true, List, Option, length, take, Some, None, Result, Ok, Err, refl, ap, ◌∙◌, arith}
 use Rattle.std.proofs.lemmas.List.{length-take-le}
 use Rattle.std.specs.Prelude.{option_map}
 use Rattle.ua_frame.specs.Streams.{size_of}
@@ -23,6 +23,14 @@ header_refuses old new now bytes had status h = (by_header (ap (option_map Broke
 pub header_waits : (k : ClientKnown) (bytes : List ℕ) → header_fault (greatest_answer k.ack) bytes ≡ None → client_fault_in_rest k bytes ≡ None
 unfolding client_fault_in_rest
 header_waits k bytes h = ap (option_map Broken) h
+
+not_broken : (o : Option ℕ) → option_map Broken o ≡ None → o ≡ None
+not_broken None h = refl
+not_broken (Some status) h = absurd cc
+
+pub waits_header : (k : ClientKnown) (bytes : List ℕ) → client_fault_in_rest k bytes ≡ None → header_fault (greatest_answer k.ack) bytes ≡ None
+unfolding client_fault_in_rest
+waits_header k bytes h = not_broken (header_fault (greatest_answer k.ack) bytes) h
 
 -- what is said of the frame, whatever bytes spell it
 abbrev pub TakesAny : ClientRunning → ClientRunning → ℕ → Parts → Given → Given → Result (Unit {0}) ClientFault → Type 0

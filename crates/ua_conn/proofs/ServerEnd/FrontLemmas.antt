@@ -22,6 +22,10 @@ pub header_waits : (k : Known) (bytes : List ℕ) → header_fault (greatest_fra
 unfolding fault_in_rest
 header_waits k bytes h = h
 
+pub waits_header : (k : Known) (bytes : List ℕ) → fault_in_rest k bytes ≡ None → header_fault (greatest_frame k.limits) bytes ≡ None
+unfolding fault_in_rest
+waits_header k bytes h = h
+
 -- what is said of the frame, whatever bytes spell it
 abbrev pub TakesAny : Running → Running → ℕ → Parts → Gained → Gained → Taken → Type 0
 TakesAny old new now f had has t =

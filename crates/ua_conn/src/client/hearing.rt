@@ -61,11 +61,15 @@ pub(crate) fn hear(
     ensures bound { length buffer.new.bytes ≤ buffer.new.capacity }
 {
     let mut read = buffer.push(piece);
+    if read == piece.len() && buffer.awaits(connection.greatest_frame()) {
+        return Ok(());
+    }
     'frames: loop {
         match take_front(connection, now, buffer, answers, out) {
             Ok(true) => buffer.drop_first(),
             Ok(false) => {
                 if read == piece.len() {
+                    buffer.remember(connection.greatest_frame());
                     return Ok(());
                 }
                 read += buffer.push(&piece[read..]);

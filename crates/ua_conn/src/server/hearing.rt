@@ -90,10 +90,14 @@ pub(crate) fn hear(
     ensures bound { length buffer.new.bytes ≤ buffer.new.capacity }
 {
     let mut read = buffer.push(piece);
+    if read == piece.len() && buffer.awaits(connection.greatest_frame()) {
+        return Ok(None);
+    }
     'frames: loop {
         match take_front(connection, now, buffer, asked, out)? {
             Step::Waits => {
                 if read == piece.len() {
+                    buffer.remember(connection.greatest_frame());
                     return Ok(None);
                 }
                 read += buffer.push(&piece[read..]);

@@ -4,12 +4,12 @@ use Rattle.std.proofs.lemmas.List.{map_push}
 use Rattle.ua_value.specs.Format.{Fails}
 use Rattle.ua_value.specs.Array.{items_at}
 use Rattle.ua_variant.specs.Kinds.{kind_number}
-use Rattle.ua_variant.specs.Values.{Variant, DataValue}
-use Rattle.ua_variant.specs.Reading.{elements_within}
-use Rattle.ua_variant.specs.View.{kind_of, element, body_of, data_with}
+use Rattle.ua_variant.specs.Values.{Variant, with_value}
+use Rattle.ua_variant.specs.Reading.{behind_mask, within, elements_within}
+use Rattle.ua_variant.specs.View.{kind_of, element, body_of}
 use Rattle.ua_value.proofs.Items.{goes_on, ends, is_done}
 use Rattle.ua_variant.proofs.PlainVariants.{one_plain}
-use Rattle.ua_variant.proofs.Steps.{no_level, no_data_level, no_first, no_mask, one_level, one_data_level, is_variant, is_data}
+use Rattle.ua_variant.proofs.Steps.{no_level, no_data_level, no_first, no_mask, one_level, one_data_level, is_variant, is_data_behind}
 use Rattle.ua_variant.proofs.reading.+read.Goals as goal
 
 pub data_within-returns-then-allowance-eq0-clause-gives : goal.data_within-returns-then-allowance-eq0-clause-gives
@@ -18,21 +18,25 @@ data_within-returns-then-allowance-eq0-clause-gives t c = no_data_level c.args.a
 pub data_within-returns-in_default-clause-gives : goal.data_within-returns-in_default-clause-gives
 data_within-returns-in_default-clause-gives t c = no_mask c.args.allowance c.args.input.now (omega (arith, c.in_default.len_below))
 
-pub data_within-returns-in_err-value-clause-gives : goal.data_within-returns-in_err-value-clause-gives
-data_within-returns-in_err-value-clause-gives t c =
-    let p = err_from_is_err_and c.from_residual.result c.from_residual.ensures.1 in
+pub data_within-returns-then-mask-ne0-clause-gives : goal.data_within-returns-then-mask-ne0-clause-gives
+data_within-returns-then-mask-ne0-clause-gives t c =
     let step = one_data_level c.args.allowance c.args.input.now (omega arith) (omega (arith, c.in-len1-up.len_at_least)) in
-    rw (p.1, p.2) (subst (λ (r : Option (DataValue × List ℕ)). Fails c.in_err-value.field-0.0 r) (sym step) c.in_err-value.ensures.gives)
+    rw step (search rules)
 
-pub data_within-of-requires : goal.data_within-of-requires
-data_within-of-requires t c =
+pub data_within-returns-then-mask-eq0-clause-gives : goal.data_within-returns-then-mask-eq0-clause-gives
+data_within-returns-then-mask-eq0-clause-gives t c =
     let step = one_data_level c.args.allowance c.args.input.now (omega arith) (omega (arith, c.in-len1-up.len_at_least)) in
-    is_data c.args.allowance c.args.input.now (data_with c.in_ok-value.value c.in_ok-value.stamps) c.in_ok-value.rest.now c.requires.allowed (λ i. omega (arith, c.type_inv.input i)) c.requires.short (step ∙ c.in_ok-value.ensures.gives)
+    rw step (search rules)
 
 pub data_within-returns-clause-gives : goal.data_within-returns-clause-gives
 data_within-returns-clause-gives t c =
     let step = one_data_level c.args.allowance c.args.input.now (omega arith) (omega (arith, c.in-len1-up.len_at_least)) in
-    step ∙ c.in_ok-value.ensures.gives ∙ ap (λ (v : DataValue). let r : Option (DataValue × List ℕ) = Some (v, c.in_ok-value.rest.now) in r) (sym c.of.ensures)
+    rw step c.valued_data.ensures.gives
+
+pub valued_data-of-requires : goal.valued_data-of-requires
+valued_data-of-requires t c =
+    let found : (behind_mask (within c.args.allowance) c.args.mask).front c.args.input.now ≡ Some (with_value c.in_ok-value.value c.in_ok-stamps.stamps, c.in_ok-stamps.rest.now) = search rules in
+    is_data_behind c.args.allowance c.args.mask c.args.input.now _ _ c.requires.allowed c.ranges.mask.fits (λ i. omega (arith, c.type_inv.input i)) c.requires.short found
 
 pub each_within-returns-in_err-item-clause-gives : goal.each_within-returns-in_err-item-clause-gives
 each_within-returns-in_err-item-clause-gives t c =

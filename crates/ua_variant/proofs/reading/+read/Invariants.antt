@@ -35,8 +35,8 @@ decreases-data_element l = 8 * l.allowance + 1
 abbrev pub decreases-data_within : goal.decreases-data_within
 decreases-data_within l = 8 * l.allowance
 
-abbrev pub decreases-parts_behind : goal.decreases-parts_behind
-decreases-parts_behind l = 8 * l.allowance + 6
+abbrev pub decreases-valued_data : goal.decreases-valued_data
+decreases-valued_data l = 8 * l.allowance + 6
 
 abbrev pub invariant-each_within-loop : goal.invariant-each_within-loop
 invariant-each_within-loop l =

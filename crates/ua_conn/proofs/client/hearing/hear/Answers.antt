@@ -1,7 +1,8 @@
-use Rattle.std.proofs.Common.{arith, length, ap, ◌∙◌}
+use Rattle.std.proofs.Common.{refl, arith, length, ap, ◌∙◌}
 use Rattle.std.proofs.lemmas.List.{length-drop, take_rest}
 use Rattle.ua_frame.specs.Streams.{size_of}
 use Rattle.ua_conn.proofs.BufferedLemmas.{IsPush, pushed_on, push_within, nothing_behind}
+use Rattle.ua_conn.proofs.ClientEnd.FrontLemmas.{header_waits, waits_header}
 use Rattle.ua_conn.proofs.ClientEnd.FeedLemmas.{starts_with, waits_whole, reads_on, breaks, goes_on}
 use Rattle.ua_conn.proofs.client.hearing.hear.Goals as goal
 
@@ -46,7 +47,18 @@ frames-preserved c =
       bound = c.push-read-in-Ok-false.ensures.bound;
     }
 
-pub returns-then-read-piece-clause-heard : goal.returns-then-read-piece-clause-heard
-returns-then-read-piece-clause-heard c =
+pub returns-then-read-piece-2-clause-heard : goal.returns-then-read-piece-2-clause-heard
+returns-then-read-piece-2-clause-heard c =
     let s = rw c.in-Ok-false.field-0-test at (rw c.in-Ok-false.is at c.take_front.ensures.step) in
-    waits_whole c.frames.invariant.heard (nothing_behind c.frames.read c.frames.buffer.bytes c.args.piece.now (omega arith)) s
+    rw c.remember.ensures (waits_whole c.frames.invariant.heard (nothing_behind c.frames.read c.frames.buffer.bytes c.args.piece.now (omega arith)) s)
+
+pub returns-then-awaits-clause-heard : goal.returns-then-awaits-clause-heard
+returns-then-awaits-clause-heard c =
+    let new = c.push-read.new.self.bytes in
+    let heard = starts_with c.args.connection.now c.args.now _ c.args.buffer.now.bytes c.args.piece.now new c.push-read.result c.push-read.ensures.bytes in
+    waits_whole heard (nothing_behind c.push-read.result new c.args.piece.now (omega arith)) (c.awaits.ensures.none c.if-awaits.true, header_waits c.args.connection.now.waits.known new (rw c.greatest_frame.ensures.is at (c.awaits.ensures.passed c.if-awaits.true)), refl, refl)
+
+pub remember-requires : goal.remember-requires
+remember-requires c =
+    let s = rw c.in-Ok-false.field-0-test at (rw c.in-Ok-false.is at c.take_front.ensures.step) in
+    rw (c.greatest_frame-then-read-piece-2.ensures.is, s.2) (waits_header c.frames.connection.waits.known c.frames.buffer.bytes s.1)

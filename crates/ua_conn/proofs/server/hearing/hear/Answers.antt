@@ -1,7 +1,8 @@
-use Rattle.std.proofs.Common.{arith, length, ap, ◌∙◌}
+use Rattle.std.proofs.Common.{refl, arith, length, ap, ◌∙◌}
 use Rattle.std.proofs.lemmas.List.{length-drop, take_rest}
 use Rattle.ua_frame.specs.Streams.{size_of}
 use Rattle.ua_conn.proofs.BufferedLemmas.{IsPush, pushed_on, push_within, nothing_behind}
+use Rattle.ua_conn.proofs.ServerEnd.FrontLemmas.{header_waits, waits_header}
 use Rattle.ua_conn.proofs.ServerEnd.FeedLemmas.{starts_with, waits_whole, reads_on, closes, refuses, goes_on}
 use Rattle.ua_conn.proofs.server.hearing.hear.Goals as goal
 
@@ -41,10 +42,10 @@ frames-preserved-in-Waits c =
       bound = c.push-read-in-Waits.ensures.bound;
     }
 
-pub returns-then-read-piece-clause-heard : goal.returns-then-read-piece-clause-heard
-returns-then-read-piece-clause-heard c =
+pub returns-then-read-piece-2-clause-heard : goal.returns-then-read-piece-2-clause-heard
+returns-then-read-piece-2-clause-heard c =
     let s = rw c.in-Waits.is at c.in_ok-take_front.ensures.step in
-    waits_whole c.frames.invariant.heard (nothing_behind c.frames.read c.frames.buffer.bytes c.args.piece.now (omega arith)) s
+    rw c.remember.ensures (waits_whole c.frames.invariant.heard (nothing_behind c.frames.read c.frames.buffer.bytes c.args.piece.now (omega arith)) s)
 
 pub returns-in-Closed-clause-heard : goal.returns-in-Closed-clause-heard
 returns-in-Closed-clause-heard c = closes _ c.frames.invariant.heard (rw c.in-Closed.is at c.in_ok-take_front.ensures.step)
@@ -52,3 +53,14 @@ returns-in-Closed-clause-heard c = closes _ c.frames.invariant.heard (rw c.in-Cl
 pub returns-in-Refused-clause-heard : goal.returns-in-Refused-clause-heard
 returns-in-Refused-clause-heard c =
     refuses _ c.frames.invariant.heard (rw c.in-Refused.is at c.in_ok-take_front.ensures.step) c.in_ok-refuse-in-Refused.ensures.ok
+
+pub returns-then-awaits-clause-heard : goal.returns-then-awaits-clause-heard
+returns-then-awaits-clause-heard c =
+    let new = c.push-read.new.self.bytes in
+    let heard = starts_with c.args.connection.now c.args.now _ c.args.buffer.now.bytes c.args.piece.now new c.push-read.result c.push-read.ensures.bytes in
+    waits_whole heard (nothing_behind c.push-read.result new c.args.piece.now (omega arith)) (c.awaits.ensures.none c.if-awaits.true, header_waits c.args.connection.now.known new (rw c.greatest_frame.ensures.is at (c.awaits.ensures.passed c.if-awaits.true)), refl, refl)
+
+pub remember-requires : goal.remember-requires
+remember-requires c =
+    let s = rw c.in-Waits.is at c.in_ok-take_front.ensures.step in
+    rw (c.greatest_frame-then-read-piece-2.ensures.is, s.2) (waits_header c.frames.connection.known c.frames.buffer.bytes s.1)

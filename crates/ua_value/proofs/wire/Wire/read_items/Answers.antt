@@ -6,7 +6,7 @@ use Rattle.ua_value.proofs.wire.Wire.read_items.Goals as goal
 
 pub returns-in_err-item-clause-gives : goal.returns-in_err-item-clause-gives
 returns-in_err-item-clause-gives g c =
-    let p = err_from_is_err_and c.from_residual.result c.from_residual.ensures.1 in
+    let p = err_from_is_err_and c.from_residual-in_err-item.result c.from_residual-in_err-item.ensures.1 in
     rw (p.1, p.2) (ends g.Self.Wire.format.grammar c.in_err-item.field-0.0 c.loop.items.items c.args.count c.loop.counter c.loop.rest.now (items_at g.Self.Wire.format.grammar c.args.count c.args.input.now) c.loop-test.true c.in_err-item.ensures.gives c.loop.invariant.so_far)
 
 pub loop-preserved : goal.loop-preserved
