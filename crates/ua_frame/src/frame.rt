@@ -115,6 +115,7 @@ pub(crate) fn size_in(bytes: &[u8]) -> u32
 /// `BAD_TCP_MESSAGE_TYPE_INVALID` where the type is none of [`Kind`], and where the flag is none of that type's;
 /// `BAD_DECODING_ERROR` where the size is under 8 bytes; `BAD_TCP_MESSAGE_TOO_LARGE` where it is over `limit` bytes.
 /// These are the header rows of docs/PROTOCOL.md, which hold whether the rest of the frame is there or not.
+#[inline(always)]
 pub fn frame_at(bytes: &[u8], limit: u32) -> Result<Option<Frame<'_>>, u32>
     // The header decides, whether the rest of the frame is there or not.
     ensures refused { IfErr result (λ status. header_fault limit bytes.now ≡ Some status) }
