@@ -31,21 +31,21 @@ has_room c =
     let was = c.self.invariant in
     elim c.if-self-len.branch [
       | then-self-len w ↦ rw w.self-inside-is (record {
-          begins = omega (arith);
-          fits = omega (arith, c.min-taken.ensures, c.len.ensures, was.begins, was.fits, ap length w.remove_front.ensures.items, length-drop c.self.inside.start c.self.inside.bytes.items);
-          there = omega (arith, was.there, w.remove_front.ensures.capacity);
-          least = was.least;
-          most = was.most;
-          awaited = rw w.remove_front.ensures.items was.awaited;
-        })
+        begins = omega (arith);
+        fits = omega (arith, c.min-taken.ensures, c.len.ensures, was.begins, was.fits, ap length w.remove_front.ensures.items, length-drop c.self.inside.start c.self.inside.bytes.items);
+        there = omega (arith, was.there, w.remove_front.ensures.capacity);
+        least = was.least;
+        most = was.most;
+        awaited = rw w.remove_front.ensures.items was.awaited;
+      })
       | else-self-len w ↦ rw w.self-inside-is (record {
-          begins = was.begins;
-          fits = omega (arith, w.if-self-len.false, c.len-2.ensures, was.fits);
-          there = was.there;
-          least = was.least;
-          most = was.most;
-          awaited = was.awaited;
-        })
+        begins = was.begins;
+        fits = omega (arith, w.if-self-len.false, c.len-2.ensures, was.fits);
+        there = was.there;
+        least = was.least;
+        most = was.most;
+        awaited = was.awaited;
+      })
     ]
 
 pub invariant_of-self : goal.invariant_of-self
