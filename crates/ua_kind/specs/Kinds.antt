@@ -1,5 +1,5 @@
 -- The kinds of values, OPC 10000-6, 5.1.2, and their numbers.
-use Rattle.std.specs.Prelude.{◌≡◌, ℕ, ◌<◌, Bool, Option, Some, None, ◌==◌, ◌&&◌, nat_le, nat_lt, if◌then◌else◌, refl}
+use Rattle.std.specs.Prelude.{◌≡◌, ℕ, ◌<◌, Bool, Option, Some, None, ◌==◌, ◌&&◌, ◌||◌, ltb, nat_le, nat_lt, if◌then◌else◌, refl}
 use Rattle.std.proofs.Common.{lit<}
 
 -- The kinds of values that hold no Variant, DataValue or DiagnosticInfo.
@@ -124,3 +124,7 @@ numbered (plain extension_object) = record { named = refl; low = lit< tt }
 numbered data_kind = record { named = refl; low = lit< tt }
 numbered variant_kind = record { named = refl; low = lit< tt }
 numbered info_kind = record { named = refl; low = lit< tt }
+
+-- a truth value, a number, a moment, a Guid or a status code, which owns no memory
+abbrev pub owns_nothing : Kind → Bool
+owns_nothing k = let n : ℕ = kind_number k in ltb n 12 || (n == 13 || (n == 14 || n == 19))

@@ -1,7 +1,7 @@
 //! The kinds of built-in values.
 
 ghost use Rattle.std.specs.Prelude.{◌≡◌, ◌≤◌, ◌↔◌, IsTrue, option_map};
-ghost use Rattle.ua_kind.specs.Kinds.{kind_number, kind_named};
+ghost use Rattle.ua_kind.specs.Kinds.{kind_number, kind_named, owns_nothing};
 ghost use Rattle.ua_kind.specs.KindNames.{kind_name};
 ghost use Rattle.ua_kind.specs.KindView.{kind_of};
 ghost use Rattle.ua_kind.specs.Nesting.{is_variant};
@@ -108,6 +108,16 @@ impl Kind {
         ensures { IsTrue result ↔ (kind_number (kind_of self) ≤ 22) }
     {
         !matches!(self, Kind::DataValue | Kind::Variant | Kind::DiagnosticInfo)
+    }
+
+    /// The values of the kind own no memory, so nothing is lost where one is not dropped.
+    pub fn owns_nothing(self) -> bool
+        ensures { result ≡ owns_nothing (kind_of self) }
+    {
+        match self {
+            Kind::DateTime | Kind::Guid | Kind::StatusCode => true,
+            _ => self.number() < Kind::String.number(),
+        }
     }
 
     /// A Variant holds no single value of the kind, but arrays of it: only of Variants (OPC 10000-6, 5.2.2.16).

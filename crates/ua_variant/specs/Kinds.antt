@@ -1,5 +1,5 @@
 -- The format of each plain kind of values, OPC 10000-6, 5.2.2.
-use Rattle.std.specs.Prelude.{ℕ, ℤ, Bool, ◌==◌, ◌||◌, ltb, List, Option}
+use Rattle.std.specs.Prelude.{ℕ, ℤ, Bool, List, Option}
 use Rattle.std.specs.Int.{w8, w16, w32, w64}
 use Rattle.ua_value.specs.Format.{Format, IsLawful}
 use Rattle.ua_value.specs.Number as number
@@ -33,10 +33,6 @@ use Rattle.ua_variant.specs.Extension as extension
 use Rattle.ua_variant.specs.ExtensionLaws.{lawful_extension_object}
 pub use Rattle.ua_kind.specs.Kinds.{Plain, boolean, sbyte, byte, int16, uint16, int32, uint32, int64, uint64, float, double, string, date_time, guid, byte_string, xml_element, node_id, expanded_node_id, status_code, qualified_name, localized_text, extension_object, Kind, plain, data_kind, variant_kind, info_kind, plain_number, kind_number, IsNumber, numbered}
 unfoldable pub use Rattle.ua_kind.specs.Kinds.{kind_named}
-
--- a truth value, a number, a moment, a Guid or a status code, which owns no memory
-abbrev pub owns_nothing : Kind → Bool
-owns_nothing k = let n : ℕ = kind_number k in ltb n 12 || (n == 13 || (n == 14 || n == 19))
 
 -- what the values of a plain kind are
 abbrev pub Payload : Plain → Type 0

@@ -3,7 +3,7 @@
 ghost use Rattle.std.specs.Prelude.{◌≡◌, ◌≤◌, length, IfOk};
 ghost use Rattle.ua_value.specs.Format.{Gives, input_limit};
 ghost use Rattle.ua_value.specs.Sequence.{made};
-ghost use Rattle.ua_variant.specs.Kinds.{plain, kind_number, owns_nothing};
+ghost use Rattle.ua_variant.specs.Kinds.{plain, kind_number};
 ghost use Rattle.ua_variant.specs.Values.{kind, element_depth, deepest};
 ghost use Rattle.ua_variant.specs.Spelling.{IsSoundElement};
 ghost use Rattle.ua_variant.specs.Reading.{leaves};
@@ -51,29 +51,6 @@ impl Element {
             Element::DataValue(_) => Kind::DataValue,
             Element::Variant(_) => Kind::Variant,
             Element::DiagnosticInfo(_) => Kind::DiagnosticInfo,
-        }
-    }
-
-    /// The value owns no memory, so nothing is lost where it is not dropped.
-    pub(crate) fn owns_nothing(&self) -> bool
-        ensures { result ≡ owns_nothing (kind (element self.now)) }
-    {
-        match self {
-            Element::Boolean(_) => true,
-            Element::SByte(_) => true,
-            Element::Byte(_) => true,
-            Element::Int16(_) => true,
-            Element::UInt16(_) => true,
-            Element::Int32(_) => true,
-            Element::UInt32(_) => true,
-            Element::Int64(_) => true,
-            Element::UInt64(_) => true,
-            Element::Float(_) => true,
-            Element::Double(_) => true,
-            Element::DateTime(_) => true,
-            Element::Guid(_) => true,
-            Element::StatusCode(_) => true,
-            _ => false,
         }
     }
 

@@ -7,6 +7,7 @@ mod depth;
 mod diagnostic;
 mod diagnostic_parts;
 mod element;
+mod emptying;
 mod extension;
 mod fault;
 mod flagged;

@@ -131,17 +131,17 @@ impl Variant {
             let_go((elements, dimensions));
             return Err(VariantFault::MixedKinds);
         }
+        let elements = Elements { list: elements };
         let dimensions = array_of(dimensions);
-        if !has_shape(count_in(&elements), &dimensions) {
+        if !has_shape(count_in(&elements.list), &dimensions) {
             let_go((elements, dimensions));
             return Err(VariantFault::BadDimensions);
         }
-        let inside = levels_in(&elements);
+        let inside = levels_in(&elements.list);
         if inside >= DEEPEST {
             let_go((elements, dimensions));
             return Err(VariantFault::TooDeep);
         }
-        let elements = Elements { list: elements };
         Ok(Variant {
             levels: inside + 1,
             body: Body::Array(kind, elements, dimensions),

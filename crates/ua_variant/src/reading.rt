@@ -343,6 +343,15 @@ fn valued_data(
     ensures counted { VariantCountsMore input.now → result ≡ Err ReadFault.Refused }
 {
     let (value, rest) = variant_within(alloc, input, allowance)?;
-    let (stamps, rest) = Stamps::read_behind(alloc, mask, rest)?;
-    Ok((DataValue::of(Some(value), stamps), rest))
+    match Stamps::read_behind(alloc, mask, rest) {
+        Ok((stamps, rest)) => Ok((DataValue::of(Some(value), stamps), rest)),
+        Err(fault) => {
+            drop_aside(value);
+            Err(fault)
+        }
+    }
 }
+
+/// Lets go of a value out of line: else it would be taken apart by its fields, on the way that keeps it as well.
+#[inline(never)]
+fn drop_aside<T: Drop>(_value: T) {}

@@ -1,6 +1,7 @@
 //! Variants, what stands in them, and data values.
 
 use crate::diagnostic::DiagnosticInfo;
+use crate::emptying::empty_each;
 use crate::extension::ExtensionObject;
 use crate::stamps::Stamps;
 use std::marker::Model;
@@ -84,14 +85,15 @@ pub(crate) struct Elements {
 }
 
 impl Drop for Elements {
-    /// Elements that own nothing are not let go of one by one.
+    /// Plain elements are let go of in a loop of their own, and not by a call for each.
     #[cycle(variant)]
     fn drop(self) {
         let Elements { list } = self;
-        let Some(list) = list else {
+        let Some(mut list) = list else {
             return;
         };
-        if own_nothing(&list) {
+        if are_plain(&list) {
+            empty_each(&mut list);
             forget_each(list);
         } else {
             let_go(list);
@@ -99,11 +101,11 @@ impl Drop for Elements {
     }
 }
 
-/// The first of elements of one kind owns nothing, so none does.
-fn own_nothing(list: &[Element]) -> bool {
+/// The first of elements of one kind is plain, so all are.
+fn are_plain(list: &[Element]) -> bool {
     match list.first() {
         None => true,
-        Some(first) => first.owns_nothing(),
+        Some(first) => first.kind().is_plain(),
     }
 }
 

@@ -15,7 +15,7 @@ abbrev size_of : Option (Vec Element) → ℕ
 size_of o = size-Elements (record { list = o })
 
 pub variant::Elements::drop-forget_each-requires : goal.variant::Elements::drop-forget_each-requires
-variant::Elements::drop-forget_each-requires t c κs = (((omega (arith, c.decreases, ap size_of c.in-Some.is, each_below c.in-Some.list.items), tt), tt), λ a m. search rules)
+variant::Elements::drop-forget_each-requires t c κs = (((omega (arith, c.decreases, ap size_of c.in-Some.is, c.empty_each.ensures, each_below c.empty_each.new.list.items), tt), tt), λ a m. search rules)
 
 pub variant::Elements::drop-let_go-requires : goal.variant::Elements::drop-let_go-requires
 variant::Elements::drop-let_go-requires t c κs = (((omega (arith, c.decreases, ap size_of c.in-Some.is, each_below c.in-Some.list.items), tt), tt), λ a m. search rules)

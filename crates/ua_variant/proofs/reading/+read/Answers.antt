@@ -35,7 +35,7 @@ data_within-returns-clause-gives t c =
 
 pub valued_data-of-requires : goal.valued_data-of-requires
 valued_data-of-requires t c =
-    let found : (behind_mask (within c.args.allowance) c.args.mask).front c.args.input.now ≡ Some (with_value c.in_ok-value.value c.in_ok-stamps.stamps, c.in_ok-stamps.rest.now) = search rules in
+    let found : (behind_mask (within c.args.allowance) c.args.mask).front c.args.input.now ≡ Some (with_value c.in_ok-value.value c.in-Ok.stamps, c.in-Ok.rest.now) = search rules in
     is_data_behind c.args.allowance c.args.mask c.args.input.now _ _ c.requires.allowed c.ranges.mask.fits (λ i. omega (arith, c.type_inv.input i)) c.requires.short found
 
 pub each_within-returns-in_err-item-clause-gives : goal.each_within-returns-in_err-item-clause-gives
