@@ -5,6 +5,7 @@ ghost use Rattle.ua_disco.specs.Faults.{Gives};
 ghost use Rattle.ua_disco.specs.Tables.{body_of, table_settings, settings_of};
 
 use crate::fault::SettingsFault;
+use crate::path::top;
 use crate::read_application::read_application_key;
 use crate::read_endpoint::read_endpoints_key;
 use crate::read_limits::read_limits_key;
@@ -50,8 +51,8 @@ fn read_table(alloc: Global, table: &Table) -> Result<Settings, SettingsFault>
     ensures { Gives (λ s. s) (table_settings (table_view table.now)) result }
 {
     let known = ["version", "application", "endpoint", "limits"];
-    check_keys(alloc, table, "", &known)?;
-    let _version = read_integer(alloc, table, "", "version", (1, 1), None)?;
+    check_keys(alloc, table, &top(), &known)?;
+    let _version = read_integer(alloc, table, &top(), "version", (1, 1), None)?;
     read_body(alloc, table)
 }
 

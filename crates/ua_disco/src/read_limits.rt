@@ -4,20 +4,20 @@ ghost use Rattle.std.specs.Prelude.{◌≤◌, IfOk};
 ghost use Rattle.toml.specs.View.{table_view};
 ghost use Rattle.ua_disco.specs.Bounds.{IsLimits};
 ghost use Rattle.ua_disco.specs.Faults.{Gives};
+ghost use Rattle.ua_disco.specs.Paths.{path_text};
 ghost use Rattle.ua_disco.specs.Reading.{table_value, defaulted};
 ghost use Rattle.ua_disco.specs.Tables.{sizes, messages, limit_fields, limits_of, limits_key, default_limits};
 
 use crate::fault::SettingsFault;
-use crate::reading::{
-    FromValue, check_keys, is_wrong_kind, prefix_of, read_integer, read_optional,
-};
+use crate::path::{Path, prefix_of, top};
+use crate::reading::{FromValue, check_keys, is_wrong_kind, read_integer, read_optional};
 use std::alloc::Global;
 use toml::{Table, Value};
 use ua_frame::Limits;
 
 #[tactic(auto, unfolding(crate::specs::Tables::sizes))]
-fn read_sizes(alloc: Global, table: &Table, prefix: &str) -> Result<(u32, u32), SettingsFault>
-    ensures gives { Gives (λ r. (r.0, r.1)) (sizes prefix.now (table_view table.now)) result }
+fn read_sizes(alloc: Global, table: &Table, prefix: &Path<'_>) -> Result<(u32, u32), SettingsFault>
+    ensures gives { Gives (λ r. (r.0, r.1)) (sizes (path_text prefix.now) (table_view table.now)) result }
     ensures kept { IfOk result (λ r. (8192 ≤ r.0) × (r.0 ≤ 1048576) × (8192 ≤ r.1) × (r.1 ≤ 1048576)) }
 {
     let range = (8192, 1_048_576);
@@ -27,8 +27,12 @@ fn read_sizes(alloc: Global, table: &Table, prefix: &str) -> Result<(u32, u32), 
 }
 
 #[tactic(auto, unfolding(crate::specs::Tables::messages))]
-fn read_messages(alloc: Global, table: &Table, prefix: &str) -> Result<(u32, u32), SettingsFault>
-    ensures gives { Gives (λ r. (r.0, r.1)) (messages prefix.now (table_view table.now)) result }
+fn read_messages(
+    alloc: Global,
+    table: &Table,
+    prefix: &Path<'_>,
+) -> Result<(u32, u32), SettingsFault>
+    ensures gives { Gives (λ r. (r.0, r.1)) (messages (path_text prefix.now) (table_view table.now)) result }
     ensures kept { IfOk result (λ r. (1 ≤ r.0) × (r.0 ≤ 16777216) × (1 ≤ r.1) × (r.1 ≤ 65535)) }
 {
     let bytes = (1, 16_777_216);
@@ -38,8 +42,12 @@ fn read_messages(alloc: Global, table: &Table, prefix: &str) -> Result<(u32, u32
 }
 
 #[tactic(auto, unfolding(crate::specs::Tables::limit_fields))]
-fn read_limit_fields(alloc: Global, table: &Table, prefix: &str) -> Result<Limits, SettingsFault>
-    ensures gives { Gives (λ l. l) (limit_fields prefix.now (table_view table.now)) result }
+fn read_limit_fields(
+    alloc: Global,
+    table: &Table,
+    prefix: &Path<'_>,
+) -> Result<Limits, SettingsFault>
+    ensures gives { Gives (λ l. l) (limit_fields (path_text prefix.now) (table_view table.now)) result }
     ensures kept { IfOk result IsLimits }
 {
     let (receive, send) = read_sizes(alloc, table, prefix)?;
@@ -53,8 +61,8 @@ fn read_limit_fields(alloc: Global, table: &Table, prefix: &str) -> Result<Limit
 }
 
 #[tactic(auto, unfolding(crate::specs::Tables::limits_of))]
-fn read_limits(alloc: Global, table: &Table, prefix: &str) -> Result<Limits, SettingsFault>
-    ensures gives { Gives (λ l. l) (limits_of prefix.now (table_view table.now)) result }
+fn read_limits(alloc: Global, table: &Table, prefix: &Path<'_>) -> Result<Limits, SettingsFault>
+    ensures gives { Gives (λ l. l) (limits_of (path_text prefix.now) (table_view table.now)) result }
     ensures kept { IfOk result IsLimits }
 {
     let known = ["receive", "send", "max_message", "max_chunks"];
@@ -68,14 +76,12 @@ impl FromValue for Limits {
 
     ghost keeps = { IsLimits };
 
-    fn from_value(alloc: Global, path: &str, value: &Value) -> Result<Limits, SettingsFault> {
+    fn from_value(alloc: Global, path: &Path<'_>, value: &Value) -> Result<Limits, SettingsFault> {
         let Some(table) = value.as_table() else {
             return Err(is_wrong_kind(alloc, path));
         };
-        let Ok(prefix) = prefix_of(alloc, path) else {
-            return Err(SettingsFault::NoMemory);
-        };
-        read_limits(alloc, table, prefix.as_str())
+        let prefix = prefix_of(path);
+        read_limits(alloc, table, &prefix)
     }
 }
 
@@ -84,10 +90,10 @@ impl FromValue for Limits {
 fn read_limits_or_default(
     alloc: Global,
     table: &Table,
-    prefix: &str,
+    prefix: &Path<'_>,
     key: &str,
 ) -> Result<Limits, SettingsFault>
-    ensures gives { Gives (λ l. l) (defaulted (table_value limits_of) default_limits prefix.now key.now (table_view table.now)) result }
+    ensures gives { Gives (λ l. l) (defaulted (table_value limits_of) default_limits (path_text prefix.now) key.now (table_view table.now)) result }
     ensures kept { IfOk result IsLimits }
 {
     match read_optional::<Limits>(alloc, table, prefix, key) {
@@ -108,5 +114,5 @@ pub(crate) fn read_limits_key(alloc: Global, table: &Table) -> Result<Limits, Se
     ensures gives { Gives (λ l. l) (limits_key (table_view table.now)) result }
     ensures kept { IfOk result IsLimits }
 {
-    read_limits_or_default(alloc, table, "", "limits")
+    read_limits_or_default(alloc, table, &top(), "limits")
 }

@@ -7,10 +7,12 @@ ghost use Rattle.toml.specs.Data.{Data, get_member};
 ghost use Rattle.toml.specs.View.{view, table_view, array_view};
 ghost use Rattle.ua_disco.specs.Bounds.{IsShort, IsCertificate};
 ghost use Rattle.ua_disco.specs.Faults.{Fault, IsFault, Gives, missing, wrong_kind, bad_value, unknown_key};
+ghost use Rattle.ua_disco.specs.Paths.{path_text};
 ghost use Rattle.ua_disco.specs.Reading.{text_value, certificate_value, items_value, counted_items, list_value, optional, required, integer, is_known, least_unknown, keys_known};
 
 use crate::fault::SettingsFault;
-use std::alloc::{AllocError, Global};
+use crate::path::{Path, item_path, path_of, text_of};
+use std::alloc::Global;
 use std::marker::Model;
 use toml::value::Array as Values;
 use toml::{Table, Value};
@@ -33,53 +35,46 @@ pub(crate) trait FromValue: Sized + Drop {
     // what holds of each value that is read
     ghost keeps: { Self → Type 0 };
 
-    fn from_value(alloc: Global, path: &str, value: &Value) -> Result<Self, SettingsFault>
-        ensures gives { Gives (λ v. v) (rule path.now (view value.now)) result }
+    fn from_value(alloc: Global, path: &Path<'_>, value: &Value) -> Result<Self, SettingsFault>
+        ensures gives { Gives (λ v. v) (rule (path_text path.now) (view value.now)) result }
         ensures kept { IfOk result keeps };
 }
 
 // ---- faults
 
-/// The path of a key below a prefix.
-fn path_of(alloc: Global, prefix: &str, key: &str) -> Result<String, AllocError>
-    ensures { IfOk result (λ s. string_bytes s ≡ prefix.now ++ key.now) }
+fn is_missing(alloc: Global, prefix: &Path<'_>, key: &str) -> SettingsFault
+    ensures { IsFault result (missing (path_text prefix.now ++ key.now)) }
 {
-    let mut path = String::from_str(alloc, prefix)?;
-    path.push_str(key)?;
-    Ok(path)
-}
-
-fn is_missing(alloc: Global, prefix: &str, key: &str) -> SettingsFault
-    ensures { IsFault result (missing (prefix.now ++ key.now)) }
-{
-    match path_of(alloc, prefix, key) {
+    let path = path_of(prefix, key);
+    match text_of(alloc, &path) {
         Ok(path) => SettingsFault::Missing(path),
         Err(_) => SettingsFault::NoMemory,
     }
 }
 
-pub(crate) fn is_wrong_kind(alloc: Global, path: &str) -> SettingsFault
-    ensures { IsFault result (wrong_kind path.now) }
+pub(crate) fn is_wrong_kind(alloc: Global, path: &Path<'_>) -> SettingsFault
+    ensures { IsFault result (wrong_kind (path_text path.now)) }
 {
-    match String::from_str(alloc, path) {
+    match text_of(alloc, path) {
         Ok(path) => SettingsFault::WrongKind(path),
         Err(_) => SettingsFault::NoMemory,
     }
 }
 
-pub(crate) fn is_bad_value(alloc: Global, path: &str) -> SettingsFault
-    ensures { IsFault result (bad_value path.now) }
+pub(crate) fn is_bad_value(alloc: Global, path: &Path<'_>) -> SettingsFault
+    ensures { IsFault result (bad_value (path_text path.now)) }
 {
-    match String::from_str(alloc, path) {
+    match text_of(alloc, path) {
         Ok(path) => SettingsFault::BadValue(path),
         Err(_) => SettingsFault::NoMemory,
     }
 }
 
-fn is_unknown(alloc: Global, prefix: &str, key: &str) -> SettingsFault
-    ensures { IsFault result (unknown_key (prefix.now ++ key.now)) }
+fn is_unknown(alloc: Global, prefix: &Path<'_>, key: &str) -> SettingsFault
+    ensures { IsFault result (unknown_key (path_text prefix.now ++ key.now)) }
 {
-    match path_of(alloc, prefix, key) {
+    let path = path_of(prefix, key);
+    match text_of(alloc, &path) {
         Ok(path) => SettingsFault::UnknownKey(path),
         Err(_) => SettingsFault::NoMemory,
     }
@@ -93,7 +88,11 @@ impl FromValue for UaString {
 
     ghost keeps = { IsShort };
 
-    fn from_value(alloc: Global, path: &str, value: &Value) -> Result<UaString, SettingsFault> {
+    fn from_value(
+        alloc: Global,
+        path: &Path<'_>,
+        value: &Value,
+    ) -> Result<UaString, SettingsFault> {
         let Some(text) = value.as_str() else {
             return Err(is_wrong_kind(alloc, path));
         };
@@ -113,7 +112,7 @@ impl FromValue for UaBytes {
 
     ghost keeps = { IsCertificate };
 
-    fn from_value(alloc: Global, path: &str, value: &Value) -> Result<UaBytes, SettingsFault> {
+    fn from_value(alloc: Global, path: &Path<'_>, value: &Value) -> Result<UaBytes, SettingsFault> {
         let Some(text) = value.as_str() else {
             return Err(is_wrong_kind(alloc, path));
         };
@@ -162,35 +161,19 @@ impl<T: FromValue> Listed<T> {
     }
 }
 
-/// What stands before the keys of a table.
-pub(crate) fn prefix_of(alloc: Global, path: &str) -> Result<String, AllocError>
-    ensures { IfOk result (λ s. string_bytes s ≡ path.now ++ 46 ∷ []) }
-{
-    path_of(alloc, path, ".")
-}
-
-/// The path of an item.
-fn item_path(alloc: Global, path: &str, index: usize) -> Result<String, AllocError>
-    ensures { IfOk result (λ s. string_bytes s ≡ path.now ++ 46 ∷ decimal index) }
-{
-    format!(in alloc; "{path}.{index}")
-}
-
 fn read_items<T: FromValue>(
     alloc: Global,
-    path: &str,
+    path: &Path<'_>,
     values: &Values,
 ) -> Result<Vec<T>, SettingsFault>
-    ensures gives { Gives (λ v. v.items) (items_value T.rule path.now 0 (array_view values.now)) result }
+    ensures gives { Gives (λ v. v.items) (items_value T.rule (path_text path.now) 0 (array_view values.now)) result }
     ensures kept { IfOk result (λ v. AllByRecursion T.keeps v.items) }
     ensures count { IfOk result (λ v. length v.items ≡ length values.now.items) }
 {
     let mut items = Vec::new(alloc);
     for index in 0..values.len() {
-        let Ok(at) = item_path(alloc, path, index) else {
-            return Err(SettingsFault::NoMemory);
-        };
-        let item = T::from_value(alloc, at.as_str(), &values[index])?;
+        let at = item_path(&*path, index);
+        let item = T::from_value(alloc, &at, &values[index])?;
         let Ok(()) = items.push(item) else {
             return Err(SettingsFault::NoMemory);
         };
@@ -200,10 +183,10 @@ fn read_items<T: FromValue>(
 
 fn read_counted<T: FromValue>(
     alloc: Global,
-    path: &str,
+    path: &Path<'_>,
     values: &Values,
 ) -> Result<Listed<T>, SettingsFault>
-    ensures gives { Gives (λ v. v) (counted_items T.rule path.now (Some (array_view values.now))) result }
+    ensures gives { Gives (λ v. v) (counted_items T.rule (path_text path.now) (Some (array_view values.now))) result }
     ensures kept { IfOk result (λ v. (length v ≤ 65535) × AllByRecursion T.keeps v) }
 {
     if values.len() > MOST_ITEMS {
@@ -221,7 +204,11 @@ impl<T: FromValue> FromValue for Listed<T> {
 
     ghost keeps = { λ v. (length v ≤ 65535) × AllByRecursion T.keeps v };
 
-    fn from_value(alloc: Global, path: &str, value: &Value) -> Result<Listed<T>, SettingsFault> {
+    fn from_value(
+        alloc: Global,
+        path: &Path<'_>,
+        value: &Value,
+    ) -> Result<Listed<T>, SettingsFault> {
         let Some(values) = value.as_array() else {
             return Err(is_wrong_kind(alloc, path));
         };
@@ -243,19 +230,17 @@ fn value_at<'a>(table: &'a Table, key: &str) -> Option<&'a Value>
 pub(crate) fn read_optional<T: FromValue>(
     alloc: Global,
     table: &Table,
-    prefix: &str,
+    prefix: &Path<'_>,
     key: &str,
 ) -> Result<Option<T>, SettingsFault>
-    ensures gives { Gives (λ o. o) (optional T.rule prefix.now key.now (table_view table.now)) result }
+    ensures gives { Gives (λ o. o) (optional T.rule (path_text prefix.now) key.now (table_view table.now)) result }
     ensures kept { IfOk result (λ o. IfSome o T.keeps) }
 {
     let Some(value) = value_at(table, key) else {
         return Ok(None);
     };
-    let Ok(path) = path_of(alloc, prefix, key) else {
-        return Err(SettingsFault::NoMemory);
-    };
-    match T::from_value(alloc, path.as_str(), value) {
+    let path = path_of(prefix, key);
+    match T::from_value(alloc, &path, value) {
         Ok(value) => Ok(Some(value)),
         Err(fault) => Err(fault),
     }
@@ -266,10 +251,10 @@ pub(crate) fn read_optional<T: FromValue>(
 pub(crate) fn read_required<T: FromValue>(
     alloc: Global,
     table: &Table,
-    prefix: &str,
+    prefix: &Path<'_>,
     key: &str,
 ) -> Result<T, SettingsFault>
-    ensures gives { Gives (λ v. v) (required T.rule prefix.now key.now (table_view table.now)) result }
+    ensures gives { Gives (λ v. v) (required T.rule (path_text prefix.now) key.now (table_view table.now)) result }
     ensures kept { IfOk result T.keeps }
 {
     match read_optional(alloc, table, prefix, key) {
@@ -284,13 +269,13 @@ pub(crate) fn read_required<T: FromValue>(
 pub(crate) fn read_integer(
     alloc: Global,
     table: &Table,
-    prefix: &str,
+    prefix: &Path<'_>,
     key: &str,
     range: (u32, u32),
     default: Option<u32>,
 ) -> Result<u32, SettingsFault>
     requires { IfSome default (λ n. (range.0 ≤ n) × (n ≤ range.1)) }
-    ensures gives { Gives (λ n. n) (integer range.0 range.1 default prefix.now key.now (table_view table.now)) result }
+    ensures gives { Gives (λ n. n) (integer range.0 range.1 default (path_text prefix.now) key.now (table_view table.now)) result }
     ensures within { IfOk result (λ n. (range.0 ≤ n) × (n ≤ range.1)) }
 {
     let Some(value) = value_at(table, key) else {
@@ -299,15 +284,13 @@ pub(crate) fn read_integer(
             None => Err(is_missing(alloc, prefix, key)),
         };
     };
-    let Ok(path) = path_of(alloc, prefix, key) else {
-        return Err(SettingsFault::NoMemory);
-    };
+    let path = path_of(prefix, key);
     let Some(found) = value.as_integer() else {
-        return Err(is_wrong_kind(alloc, path.as_str()));
+        return Err(is_wrong_kind(alloc, &path));
     };
     match u32::try_from(found) {
         Ok(n) if range.0 <= n && n <= range.1 => Ok(n),
-        _ => Err(is_bad_value(alloc, path.as_str())),
+        _ => Err(is_bad_value(alloc, &path)),
     }
 }
 
@@ -315,13 +298,13 @@ pub(crate) fn read_integer(
 pub(crate) fn read_byte(
     alloc: Global,
     table: &Table,
-    prefix: &str,
+    prefix: &Path<'_>,
     key: &str,
     range: (u8, u8),
     default: u8,
 ) -> Result<u8, SettingsFault>
     requires { (range.0 ≤ default) × (default ≤ range.1) }
-    ensures { Gives (λ n. n) (integer range.0 range.1 (Some default) prefix.now key.now (table_view table.now)) result }
+    ensures { Gives (λ n. n) (integer range.0 range.1 (Some default) (path_text prefix.now) key.now (table_view table.now)) result }
 {
     let range = (u32::from(range.0), u32::from(range.1));
     match read_integer(alloc, table, prefix, key, range, Some(u32::from(default))) {
@@ -359,10 +342,10 @@ fn unknown_in<'a>(table: &'a Table, known: &[&str]) -> Option<&'a str>
 pub(crate) fn check_keys(
     alloc: Global,
     table: &Table,
-    prefix: &str,
+    prefix: &Path<'_>,
     known: &[&str],
 ) -> Result<(), SettingsFault>
-    ensures { Gives (λ u. u) (keys_known (map (λ k. k.now) known.now) prefix.now (table_view table.now)) result }
+    ensures { Gives (λ u. u) (keys_known (map (λ k. k.now) known.now) (path_text prefix.now) (table_view table.now)) result }
 {
     match unknown_in(table, known) {
         None => Ok(()),

@@ -5,9 +5,11 @@ ghost use Rattle.std.specs.List.{AllByRecursion};
 ghost use Rattle.toml.specs.View.{table_view};
 ghost use Rattle.ua_disco.specs.Bounds.{IsShort};
 ghost use Rattle.ua_disco.specs.Faults.{Gives};
+ghost use Rattle.ua_disco.specs.Paths.{path_text};
 ghost use Rattle.ua_disco.specs.Tables.{text_or_null, text_or, array_key};
 
 use crate::fault::SettingsFault;
+use crate::path::Path;
 use crate::reading::{FromValue, Listed, read_integer, read_optional};
 use std::alloc::Global;
 use toml::Table;
@@ -18,10 +20,10 @@ use ua_value::UaString;
 pub(crate) fn read_text_or_null(
     alloc: Global,
     table: &Table,
-    prefix: &str,
+    prefix: &Path<'_>,
     key: &str,
 ) -> Result<UaString, SettingsFault>
-    ensures gives { Gives (λ t. t) (text_or_null prefix.now key.now (table_view table.now)) result }
+    ensures gives { Gives (λ t. t) (text_or_null (path_text prefix.now) key.now (table_view table.now)) result }
     ensures kept { IfOk result IsShort }
 {
     match read_optional::<UaString>(alloc, table, prefix, key) {
@@ -36,12 +38,12 @@ pub(crate) fn read_text_or_null(
 pub(crate) fn read_text_or(
     alloc: Global,
     table: &Table,
-    prefix: &str,
+    prefix: &Path<'_>,
     key: &str,
     default: &str,
 ) -> Result<UaString, SettingsFault>
     requires { length default.now ≤ 4095 }
-    ensures gives { Gives (λ t. t) (text_or default.now prefix.now key.now (table_view table.now)) result }
+    ensures gives { Gives (λ t. t) (text_or default.now (path_text prefix.now) key.now (table_view table.now)) result }
     ensures kept { IfOk result IsShort }
 {
     match read_optional::<UaString>(alloc, table, prefix, key) {
@@ -59,10 +61,10 @@ pub(crate) fn read_text_or(
 pub(crate) fn read_list<T: FromValue>(
     alloc: Global,
     table: &Table,
-    prefix: &str,
+    prefix: &Path<'_>,
     key: &str,
 ) -> Result<Vec<T>, SettingsFault>
-    ensures gives { Gives (λ v. v.items) (array_key T.rule prefix.now key.now (table_view table.now)) result }
+    ensures gives { Gives (λ v. v.items) (array_key T.rule (path_text prefix.now) key.now (table_view table.now)) result }
     ensures count { IfOk result (λ v. length v.items ≤ 65535) }
     ensures kept { IfOk result (λ v. AllByRecursion T.keeps v.items) }
 {

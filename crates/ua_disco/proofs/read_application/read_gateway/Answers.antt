@@ -2,6 +2,7 @@ use Rattle.std.proofs.Common.{◌∙◌, Ok, Result, codes}
 use Rattle.std.proofs.lemmas.Result.{err_from_is_err_and}
 use Rattle.toml.specs.View.{table_view}
 use Rattle.ua_disco.specs.Faults.{Fault, next}
+use Rattle.ua_disco.specs.Paths.{path_text}
 use Rattle.ua_disco.specs.Tables.{Text, text_or_null, gateway}
 use Rattle.ua_disco.proofs.EachItem.{first_fails, fails_same, next_gives}
 use Rattle.ua_disco.proofs.read_application.read_gateway.Goals as goal
@@ -10,7 +11,7 @@ pub returns-in_err-profile_uri-clause-gives : goal.returns-in_err-profile_uri-cl
 unfolding gateway
 returns-in_err-profile_uri-clause-gives c =
     let p = err_from_is_err_and c.from_residual-in_err-profile_uri.result c.from_residual-in_err-profile_uri.ensures.1 in
-    let prefix = c.args.prefix.now in
+    let prefix = (path_text c.args.prefix.now) in
     let ms = table_view c.args.table.now in
     let first = text_or_null prefix (codes "gateway_uri") ms in
     let second = text_or_null prefix (codes "profile_uri") ms in
@@ -22,7 +23,7 @@ returns-in_err-profile_uri-clause-gives c =
 pub returns-clause-gives : goal.returns-clause-gives
 unfolding gateway
 returns-clause-gives c =
-    let prefix = c.args.prefix.now in
+    let prefix = (path_text c.args.prefix.now) in
     let ms = table_view c.args.table.now in
     let first = text_or_null prefix (codes "gateway_uri") ms in
     let second = text_or_null prefix (codes "profile_uri") ms in
