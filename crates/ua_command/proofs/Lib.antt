@@ -1,5 +1,6 @@
 pub mod Rows
 pub mod Lines
+pub mod Dropped
 pub mod Values
 pub mod Asked
 pub mod Codes

@@ -1,6 +1,7 @@
 //! The command `answer`: answers the pieces of a connection.
 
-ghost use Rattle.std.specs.Prelude.{◌≡◌, List, ℕ, map, IfOk, IfErr, Ok, Some, string_bytes};
+ghost use Rattle.std.specs.Prelude.{◌≡◌, ◌++◌, List, ℕ, codes, map, IfOk, IfErr, Ok, Some, string_bytes};
+ghost use Rattle.hex.specs.Hex.{encode_lower};
 ghost use Rattle.ua_frame.specs.Streams.{pieces_of};
 ghost use Rattle.ua_command.specs.Answer.{answer_lines, answered as answered_bytes, ending, end_text, piece_of, stream_of, IsInput, AnswersInput, AnswersBy};
 ghost use Rattle.ua_command.specs.End.{end_status};
@@ -10,7 +11,7 @@ ghost use Rattle.ua_command.specs.Stop.{IsInputStop, IsAnswerStop, IsQuiet};
 use crate::input::read_whole;
 use crate::script::{TimedPiece, script_of};
 use crate::settings::{Source, settings_in};
-use crate::stop::{Stop, print};
+use crate::stop::{Stop, print_bytes};
 use crate::text::Code;
 use std::alloc::Global;
 use std::fmt;
@@ -18,6 +19,7 @@ use std::io::{Read, Write};
 use std::rt::Files;
 use ua_conn::{End, Outcome, answer_all};
 use ua_disco::Settings;
+use ua_hex::encode;
 use ua_value::NoMemory;
 
 /// The id of the channel that a connection of the command has.
@@ -63,13 +65,28 @@ fn answered(alloc: Global, settings: &Settings, pieces: &[TimedPiece]) -> Result
     answer_all(alloc, settings, CHANNEL, lent.as_slice())
 }
 
-/// The reply in hex on one line, and the end on another.
-fn lines(alloc: Global, reply: &[u8], end: End) -> Result<String, NoMemory>
-    ensures { IfOk result (λ text. string_bytes text ≡ answer_lines reply.now end) }
+/// The end of the line of the reply, and the line of the end.
+fn last_line(alloc: Global, end: End) -> Result<String, NoMemory>
+    ensures { IfOk result (λ text. string_bytes text ≡ codes "\nend " ++ end_text end ++ codes "\n") }
 {
-    let mut text = hex::encode(alloc, reply)?;
-    writeln!(text, "\nend {}", Ending(end))?;
+    format!(in alloc; "\nend {}\n", Ending(end))
+}
+
+/// The reply in hex, and a text behind it.
+fn with_reply(alloc: Global, reply: &[u8], behind: &str) -> Result<Vec<u8>, NoMemory>
+    ensures { IfOk result (λ text. text.items ≡ encode_lower reply.now ++ behind.now) }
+{
+    let mut text = encode(alloc, reply, behind.len())?;
+    text.extend_from_slice(behind.as_bytes())?;
     Ok(text)
+}
+
+/// The reply in hex on one line, and the end on another.
+fn lines(alloc: Global, reply: &[u8], end: End) -> Result<Vec<u8>, NoMemory>
+    ensures { IfOk result (λ text. text.items ≡ answer_lines reply.now end) }
+{
+    let last = last_line(alloc, end)?;
+    with_reply(alloc, reply, last.as_str())
 }
 
 /// The exit status of an end: 0 where a close came or the input ended behind a whole frame, 1 where a frame was
@@ -109,7 +126,7 @@ fn answer_input<I: Read, O: Write>(
     let pieces = pieces_in(alloc, input)?;
     let outcome = answered(alloc, settings, pieces.as_slice())?;
     let lines = lines(alloc, outcome.reply.as_slice(), outcome.end)?;
-    print(output, lines.as_str())?;
+    print_bytes(output, lines.as_slice())?;
     Ok(status_of(outcome.end))
 }
 

@@ -112,7 +112,15 @@ pub fn print<O: Write>(output: &mut O, text: &str) -> Result<(), Stop>
     ensures ok { OnOk result (Appends (O.contents output.old) (O.contents output.new) text.now) }
     ensures err { IfErr result (λ e. e ≡ Stop.File) }
 {
-    if output.write_all(text.as_bytes()).is_err() {
+    print_bytes(output, text.as_bytes())
+}
+
+/// Prints the bytes of a text in the same way.
+pub fn print_bytes<O: Write>(output: &mut O, text: &[u8]) -> Result<(), Stop>
+    ensures ok { OnOk result (Appends (O.contents output.old) (O.contents output.new) text.now) }
+    ensures err { IfErr result (λ e. e ≡ Stop.File) }
+{
+    if output.write_all(text).is_err() {
         return Err(Stop::File);
     }
     if output.flush().is_err() {

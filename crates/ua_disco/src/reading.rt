@@ -119,7 +119,7 @@ impl FromValue for UaBytes {
         if text.len() > MOST_DIGITS {
             return Err(is_bad_value(alloc, path));
         }
-        let bytes = match hex::decode(alloc, text) {
+        let bytes = match ua_hex::decode(alloc, text.as_bytes()) {
             Ok(bytes) => bytes,
             Err(hex::FromHexError::OutOfMemory) => return Err(SettingsFault::NoMemory),
             Err(_) => return Err(is_bad_value(alloc, path)),

@@ -1,0 +1,8 @@
+use Rattle.std.proofs.Common.{◌==◌, ◌||◌, sym, ◌∙◌}
+use Rattle.ua_command.proofs.Dropped.{kept_front}
+use Rattle.ua_command.proofs.script.line_of.Goals as goal
+
+pub returns-then-are_dropped : goal.returns-then-are_dropped
+returns-then-are_dropped c =
+    let whole = kept_front (λ b. b == 32 || b == 13) c.args.line.now c.split_at.result.0.now c.split_at.result.1.now c.first_dropped.result c.split_at.ensures.front c.split_at.ensures.back c.first_dropped.ensures.kept (sym c.are_dropped.ensures ∙ c.if-are_dropped.true) in
+    rw whole c.line_of_kept.ensures

@@ -1,0 +1,9 @@
+use Rattle.std.proofs.Common.{arith}
+use Rattle.ua_hex.proofs.Blocks.{letter_value, no_value}
+use Rattle.ua_hex.proofs.decoding.value.Goals as goal
+
+pub returns-then-letter-lt6 : goal.returns-then-letter-lt6
+returns-then-letter-lt6 c = letter_value c.args.c (omega (arith, c.ranges.c.fits)) c.if-number-lt10.false c.if-letter-lt6.true
+
+pub returns-else-letter-lt6 : goal.returns-else-letter-lt6
+returns-else-letter-lt6 c = no_value c.args.c (omega (arith, c.ranges.c.fits)) c.if-number-lt10.false c.if-letter-lt6.false
