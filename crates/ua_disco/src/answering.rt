@@ -29,7 +29,7 @@ fn servers(
     ensures within { IsConfiguration settings.now }
 {
     let mut found = Vec::new(alloc);
-    let application = settings.application();
+    let application = settings.application().get();
     if !asks_for(&request.server_uris, &application.uri) {
         return Ok(found);
     }
@@ -48,13 +48,13 @@ fn endpoints<'a>(
     ensures within { IsConfiguration settings.now }
 {
     let mut found = Vec::new(alloc);
-    let application = settings.application();
+    let application = settings.application().get();
     let name = application.names.in_language(&request.locale_ids);
     let offered = settings.endpoints();
     let mut verdicts = Verdicts::new(&request.profile_uris);
     for endpoint in offered {
-        if verdicts.asks_for(&endpoint.transport) {
-            found.push(endpoint.describe(application, name)?)?;
+        if verdicts.asks_for(&endpoint.get().transport) {
+            found.push(endpoint.get().describe(application, name)?)?;
         }
     }
     Ok(found)

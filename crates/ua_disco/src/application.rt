@@ -1,9 +1,8 @@
 //! The application of a server, as it is set up.
 
-ghost use Rattle.std.specs.Prelude.{◌≡◌, ◌≤◌, ◌++◌, length, IfOk, OnOk, OnErr};
-ghost use Rattle.ua_value.specs.Format.{AppendsPart};
-ghost use Rattle.ua_service.specs.Application.{application_description};
+ghost use Rattle.std.specs.Prelude.{◌≡◌, ◌≤◌, ◌++◌, length, IfOk, OnOk};
 ghost use Rattle.ua_disco.specs.Answers.{described};
+ghost use Rattle.ua_disco.specs.Spelled.{before_name, behind_name};
 
 use ua_choice::Names;
 use ua_service::ApplicationDescription;
@@ -48,54 +47,48 @@ impl Application {
             discovery_urls,
         })
     }
-}
 
-/// An application under one of its names, both lent: what its description is written as, with none made.
-#[derive(Clone, Copy)]
-pub(crate) struct NamedApplication<'a> {
-    pub(crate) application: &'a Application,
-    pub(crate) name: &'a LocalizedText,
-}
-
-impl<'a> NamedApplication<'a> {
-    /// The length of what its description is written as, in bytes.
-    #[tactic(auto, unfolding(ua_service::specs::Application::application_description))]
-    pub(crate) fn len(&self) -> u64
-        ensures length { result ≡ length (application_description.canon (described self.now.application.now self.now.name.now)) }
-        ensures few { result ≤ 1152921517491748891 }
+    /// The length of what stands before its name in its description, in bytes.
+    pub(crate) fn len_front(&self) -> u64
+        ensures length { result ≡ length (before_name self.now) }
+        ensures few { result ≤ 4294967302 }
     {
-        let application = self.application;
-        application.uri.len()
-            + application.product_uri.len()
-            + self.name.len()
-            + application.kind.len()
-            + application.gateway_uri.len()
-            + application.profile_uri.len()
-            + application.discovery_urls.len()
+        self.uri.len() + self.product_uri.len()
     }
-}
 
-#[tactic(auto, unfolding(ua_service::specs::Application::application_description))]
-impl<'a> Parts for NamedApplication<'a> {
-    ghost spelling = { λ p. application_description.canon (described p.application.now p.name.now) };
+    /// Puts what stands before its name in its description.
+    ///
+    /// # Errors
+    ///
+    /// `NoMemory` where a growth was refused; a beginning of it may have been put.
+    pub(crate) fn put_front<S: Sink>(&self, out: &mut S) -> Result<(), NoMemory>
+        ensures { OnOk result (S.contents out.new ≡ S.contents out.old ++ before_name self.now) }
+    {
+        (&self.uri, &self.product_uri).emit_parts(out)
+    }
 
-    fn emit_parts<S: Sink>(&self, out: &mut S) -> Result<(), NoMemory> {
-        let application = self.application;
+    /// The length of what stands behind its name in its description, in bytes.
+    pub(crate) fn len_behind(&self) -> u64
+        ensures length { result ≡ length (behind_name self.now) }
+        ensures few { result ≤ 1152921508901814286 }
+    {
+        self.kind.len()
+            + self.gateway_uri.len()
+            + self.profile_uri.len()
+            + self.discovery_urls.len()
+    }
+
+    /// Puts what stands behind its name in its description.
+    ///
+    /// # Errors
+    ///
+    /// `NoMemory` where a growth was refused; a beginning of it may have been put.
+    pub(crate) fn put_behind<S: Sink>(&self, out: &mut S) -> Result<(), NoMemory>
+        ensures { OnOk result (S.contents out.new ≡ S.contents out.old ++ behind_name self.now) }
+    {
         (
-            &application.uri,
-            (
-                &application.product_uri,
-                (
-                    self.name,
-                    (
-                        &application.kind,
-                        (
-                            &application.gateway_uri,
-                            (&application.profile_uri, &application.discovery_urls),
-                        ),
-                    ),
-                ),
-            ),
+            &self.kind,
+            (&self.gateway_uri, (&self.profile_uri, &self.discovery_urls)),
         )
             .emit_parts(out)
     }

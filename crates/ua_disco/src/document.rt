@@ -1,8 +1,10 @@
 //! Reads a document of settings.
 
+ghost use Rattle.std.specs.Prelude.{IfOk};
+ghost use Rattle.ua_disco.specs.Bounds.{IsApplication};
 ghost use Rattle.toml.specs.View.{table_view};
 ghost use Rattle.ua_disco.specs.Faults.{Gives};
-ghost use Rattle.ua_disco.specs.Tables.{body_of, table_settings, settings_of};
+ghost use Rattle.ua_disco.specs.Tables.{application_key, body_of, table_settings, settings_of};
 
 use crate::fault::SettingsFault;
 use crate::path::top;
@@ -11,6 +13,7 @@ use crate::read_endpoint::read_endpoints_key;
 use crate::read_limits::read_limits_key;
 use crate::reading::{check_keys, read_integer};
 use crate::settings::Settings;
+use crate::spelled::SpelledApplication;
 use crate::valid::{application_is_value, endpoints_are_values};
 use std::alloc::Global;
 use toml::Table;
@@ -30,14 +33,31 @@ url = \"opc.tcp://localhost:4840\"
 id = \"0\"
 ";
 
+/// The application of a document, spelled.
+fn read_spelled_application(
+    alloc: Global,
+    table: &Table,
+) -> Result<SpelledApplication, SettingsFault>
+    ensures gives { Gives (λ a. a) (application_key (table_view table.now)) result }
+    ensures kept { IfOk result IsApplication }
+{
+    match read_application_key(alloc, table) {
+        Ok(application) => match SpelledApplication::new(alloc, application) {
+            Ok(spelled) => Ok(spelled),
+            Err(_) => Err(SettingsFault::NoMemory),
+        },
+        Err(fault) => Err(fault),
+    }
+}
+
 #[tactic(auto, unfolding(crate::specs::Tables::body_of))]
 fn read_body(alloc: Global, table: &Table) -> Result<Settings, SettingsFault>
     ensures { Gives (λ s. s) (body_of (table_view table.now)) result }
 {
-    let application = read_application_key(alloc, table)?;
+    let application = read_spelled_application(alloc, table)?;
     let endpoints = read_endpoints_key(alloc, table)?;
     let limits = read_limits_key(alloc, table)?;
-    application_is_value(&application);
+    application_is_value(application.get());
     endpoints_are_values(&endpoints);
     Ok(Settings {
         limits,

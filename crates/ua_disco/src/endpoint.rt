@@ -1,12 +1,10 @@
 //! The endpoints of a server, as they are set up.
 
-ghost use Rattle.std.specs.Prelude.{◌≡◌, ◌≤◌, ◌++◌, length, IfOk, OnOk, OnErr};
-ghost use Rattle.ua_value.specs.Format.{AppendsPart};
-ghost use Rattle.ua_service.specs.Endpoint.{endpoint_description};
+ghost use Rattle.std.specs.Prelude.{◌≡◌, ◌≤◌, ◌++◌, length, IfOk, OnOk};
 ghost use Rattle.ua_disco.specs.Answers.{described_endpoint};
+ghost use Rattle.ua_disco.specs.Spelled.{behind_server};
 
-use crate::application::{Application, NamedApplication};
-use crate::then::Then;
+use crate::application::Application;
 use ua_service::{EndpointDescription, UserTokenPolicy};
 use ua_value::plumbing::{Parts, copy_three, copy_two};
 use ua_value::{Array, LocalizedText, NoMemory, Sink, UaBytes, UaString, Wire};
@@ -52,15 +50,12 @@ impl Endpoint {
         })
     }
 
-    /// The length of what its description is written as, as an endpoint of the application, in bytes.
-    #[tactic(auto, unfolding(ua_service::specs::Endpoint::endpoint_description))]
-    pub(crate) fn len(&self, server: &NamedApplication<'_>) -> u64
-        ensures length { result ≡ length (endpoint_description.canon (described_endpoint server.now.application.now server.now.name.now self.now)) }
-        ensures few { result ≤ 2305843030688530480 }
+    /// The length of what stands behind its server in its description, in bytes.
+    pub(crate) fn len_behind(&self) -> u64
+        ensures length { result ≡ length (behind_server self.now) }
+        ensures few { result ≤ 1152921511049297938 }
     {
-        self.url.len()
-            + server.len()
-            + self.certificate.len()
+        self.certificate.len()
             + self.mode.len()
             + self.policy.len()
             + self.tokens.len()
@@ -68,33 +63,20 @@ impl Endpoint {
             + self.level.len()
     }
 
-    /// Puts what its description is written as, as an endpoint of the application, with none made.
+    /// Puts what stands behind its server in its description.
     ///
     /// # Errors
     ///
     /// `NoMemory` where a growth was refused; a beginning of it may have been put.
-    #[tactic(auto, unfolding(ua_service::specs::Endpoint::endpoint_description))]
-    pub(crate) fn put<S: Sink>(
-        &self,
-        server: &NamedApplication<'_>,
-        out: &mut S,
-    ) -> Result<(), NoMemory>
-        ensures ok { OnOk result (S.contents out.new ≡ S.contents out.old ++ endpoint_description.canon (described_endpoint server.now.application.now server.now.name.now self.now)) }
-        ensures err { OnErr result (AppendsPart (S.contents out.old) (S.contents out.new) (endpoint_description.canon (described_endpoint server.now.application.now server.now.name.now self.now))) }
+    pub(crate) fn put_behind<S: Sink>(&self, out: &mut S) -> Result<(), NoMemory>
+        ensures { OnOk result (S.contents out.new ≡ S.contents out.old ++ behind_server self.now) }
     {
-        let behind = (
+        (
             &self.certificate,
             (
                 &self.mode,
                 (&self.policy, (&self.tokens, (&self.transport, &self.level))),
             ),
-        );
-        (
-            &self.url,
-            Then {
-                first: *server,
-                behind,
-            },
         )
             .emit_parts(out)
     }

@@ -6,8 +6,8 @@ ghost use Rattle.ua_value.specs.Format.{AppendsPart};
 ghost use Rattle.ua_service.specs.Endpoint.{endpoint_description};
 ghost use Rattle.ua_disco.specs.Answers.{described, servers_found, endpoints_found};
 
-use crate::application::NamedApplication;
 use crate::settings::Settings;
+use crate::spelled::NamedApplication;
 use ua_choice::{Verdicts, asks_for};
 use ua_service::{FindServersRequest, GetEndpointsRequest};
 use ua_value::plumbing::Parts;
@@ -23,10 +23,11 @@ pub(crate) fn asked_server<'a>(
     ensures none { result ≡ None → servers_found settings.now request.now ≡ [] }
 {
     let application = settings.application();
-    if !asks_for(&request.server_uris, &application.uri) {
+    let plain = application.get();
+    if !asks_for(&request.server_uris, &plain.uri) {
         return None;
     }
-    let name = application.names.in_language(&request.locale_ids);
+    let name = plain.names.in_language(&request.locale_ids);
     Some(NamedApplication { application, name })
 }
 
@@ -39,7 +40,7 @@ pub(crate) fn endpoint_count<'a>(settings: &'a Settings, request: &'a GetEndpoin
     let mut verdicts = Verdicts::new(&request.profile_uris);
     let offered = settings.endpoints();
     for endpoint in offered {
-        if verdicts.asks_for(&endpoint.transport) {
+        if verdicts.asks_for(&endpoint.get().transport) {
             count += 1;
         }
     }
@@ -52,13 +53,14 @@ pub(crate) fn endpoints_len<'a>(settings: &'a Settings, request: &'a GetEndpoint
     ensures few { result ≤ 1152921504606846976 }
 {
     let application = settings.application();
-    let name = application.names.in_language(&request.locale_ids);
+    let plain = application.get();
+    let name = plain.names.in_language(&request.locale_ids);
     let server = NamedApplication { application, name };
     let mut total = 0;
     let mut verdicts = Verdicts::new(&request.profile_uris);
     let offered = settings.endpoints();
     for endpoint in offered {
-        if verdicts.asks_for(&endpoint.transport) {
+        if verdicts.asks_for(&endpoint.get().transport) {
             total += endpoint.len(&server);
         }
     }
@@ -79,12 +81,13 @@ fn put_endpoints<'a, S: Sink>(
     ensures err { OnErr result (AppendsPart (S.contents out.old) (S.contents out.new) (flat_map endpoint_description.canon (endpoints_found settings.now request.now))) }
 {
     let application = settings.application();
-    let name = application.names.in_language(&request.locale_ids);
+    let plain = application.get();
+    let name = plain.names.in_language(&request.locale_ids);
     let server = NamedApplication { application, name };
     let mut verdicts = Verdicts::new(&request.profile_uris);
     let offered = settings.endpoints();
     for endpoint in offered {
-        if verdicts.asks_for(&endpoint.transport) {
+        if verdicts.asks_for(&endpoint.get().transport) {
             endpoint.put(&server, out)?;
         }
     }

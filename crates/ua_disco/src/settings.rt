@@ -5,8 +5,7 @@ ghost use Rattle.ua_disco.specs.Bounds.{IsLimits, IsConfiguration};
 ghost use Rattle.ua_disco.specs.Settings.{first_url_of};
 ghost use Rattle.ua_disco.specs.Values.{AreSettings};
 
-use crate::application::Application;
-use crate::endpoint::Endpoint;
+use crate::spelled::{SpelledApplication, SpelledEndpoint};
 use std::marker::Model;
 use ua_frame::Limits;
 use ua_value::UaString;
@@ -15,8 +14,8 @@ use ua_value::UaString;
 #[derive(Drop)]
 pub struct Settings {
     pub(crate) limits: Limits,
-    pub(crate) application: Application,
-    pub(crate) endpoints: Vec<Endpoint>,
+    pub(crate) application: SpelledApplication,
+    pub(crate) endpoints: Vec<SpelledEndpoint>,
 }
 
 impl Model for Settings {
@@ -41,14 +40,14 @@ impl Settings {
         self.limits
     }
 
-    pub(crate) fn application(&self) -> &Application
+    pub(crate) fn application(&self) -> &SpelledApplication
         ensures application { result.now ≡ self.now.application }
         ensures within { IsConfiguration self.now }
     {
         &self.application
     }
 
-    pub(crate) fn endpoints(&self) -> &[Endpoint]
+    pub(crate) fn endpoints(&self) -> &[SpelledEndpoint]
         ensures endpoints { result.now ≡ self.now.endpoints }
         ensures within { IsConfiguration self.now }
     {
@@ -59,7 +58,7 @@ impl Settings {
     pub fn first_uri(&self) -> &UaString
         ensures { result.now ≡ self.now.application.uri }
     {
-        &self.application.uri
+        &self.application.get().uri
     }
 
     /// The url of its first endpoint; `None` where it has none.
@@ -67,7 +66,7 @@ impl Settings {
         ensures { option_copied result ≡ first_url_of self.now.endpoints }
     {
         match self.endpoints.first() {
-            Some(endpoint) => Some(&endpoint.url),
+            Some(endpoint) => Some(&endpoint.get().url),
             None => None,
         }
     }
