@@ -12,6 +12,7 @@ use Rattle.ua_chunk.specs.Content.{content_at}
 use Rattle.ua_chunk.specs.ContentLaws.{content_is}
 use Rattle.ua_command.specs.Capture.{longest, Shown, behind, half_after, content_lines, bad_shown, cut_shown, rest_shown, frame_shown, frames_shown, at_once, shown_from, Ends, AddsFrame, AddsFront}
 use Rattle.ua_command.specs.FrameLine.{bad_line, rest_line}
+use Rattle.ua_command.specs.Parts.{joined}
 use Rattle.ua_command.specs.declared.capture.Lines.{Lines}
 use Rattle.ua_command.specs.declared.capture.Front.{Front}
 use Rattle.ua_command.specs.declared.capture.Front.TheVariants as fronts
@@ -67,8 +68,8 @@ header_front offset half bytes status e =
 
 -- ---- what the code did
 
-joined : (a b c : List ℕ) (status : ℕ) (s : Shown) → c ≡ a ++ b → behind a (behind b s) ≡ behind c s
-joined a b c status s e = λ i. record { text = (sym (append_assoc a b s.text) ∙ ap (λ l. l ++ s.text) (sym e)) i; status = s.status }
+one_text : (a b c : List ℕ) (status : ℕ) (s : Shown) → c ≡ a ++ b → behind a (behind b s) ≡ behind c s
+one_text a b c status s e = λ i. record { text = (sym (append_assoc a b s.text) ∙ ap (λ l. l ++ s.text) (sym e)) i; status = s.status }
 
 -- a frame whose header no row refuses
 pub known_front : (offset : ℕ) (bytes : List ℕ) (f : Parts) (old new : Lines) (front : Front) → header_fault longest bytes ≡ None → size_of bytes ≤ length bytes → IsFrameOf (take (size_of bytes) bytes) f
@@ -78,20 +79,20 @@ known_front offset bytes f old new (fronts.Frame size) passed within is h =
     let same : n ≡ size = front_size bytes f within is ∙ sym h.2 in
     let least : 8 ≤ n = omega (arith, front_size bytes f within is) in
     let read : content_at longest (take n bytes) ≡ Ok h.0 = content_is longest (take n bytes) f is (header_fault_take longest n bytes least ∙ passed) ∙ h.1 in
-    let half = old.half.items in
+    let half = joined old.half.items in
     let step : shown_from offset half bytes ≡ behind (content_lines offset n half h.0) (shown_from (offset + n) (half_after half h.0) (drop n bytes)) =
     frame_front offset n half bytes within is.there ∙ ap (λ r. frame_shown offset n half r (λ next. shown_from (offset + n) next (drop n bytes))) read in
-    let moved : shown_from offset half bytes ≡ behind (content_lines offset size half h.0) (shown_from (offset + size) new.half.items (drop size bytes)) =
+    let moved : shown_from offset half bytes ≡ behind (content_lines offset size half h.0) (shown_from (offset + size) (joined new.half.items) (drop size bytes)) =
     step ∙ (λ i. behind (content_lines offset (same i) half h.0) (shown_from (offset + same i) (sym h.4 i) (drop (same i) bytes))) in (
       omega (arith, same, least),
       omega (arith, same, within),
-      ap (behind (string_bytes old.text)) moved ∙ joined (string_bytes old.text) (content_lines offset size half h.0) (string_bytes new.text) 0 (shown_from (offset + size) new.half.items (drop size bytes)) h.3,
+      ap (behind (string_bytes old.text)) moved ∙ one_text (string_bytes old.text) (content_lines offset size half h.0) (string_bytes new.text) 0 (shown_from (offset + size) (joined new.half.items) (drop size bytes)) h.3,
     )
 known_front offset bytes f old new (fronts.End status) passed within is h =
     let n = size_of bytes in
     let least : 8 ≤ n = omega (arith, front_size bytes f within is) in
     let read : content_at longest (take n bytes) ≡ Err h.0 = content_is longest (take n bytes) f is (header_fault_take longest n bytes least ∙ passed) ∙ h.1 in
-    let half = old.half.items in
+    let half = joined old.half.items in
     let step : shown_from offset half bytes ≡ bad_shown offset h.0 =
     frame_front offset n half bytes within is.there ∙ ap (λ r. frame_shown offset n half r (λ next. shown_from (offset + n) next (drop n bytes))) read in
     ap (behind (string_bytes old.text)) step ∙ (λ i. record { text = sym h.3 i; status = sym h.2 i })
@@ -105,7 +106,7 @@ known_adds offset bytes f old new (Err e) passed within is h = h
 refused_front : (offset : ℕ) (bytes : List ℕ) (status : ℕ) (old new : Lines) (front : Front) → header_fault longest bytes ≡ Some status → Ends (bad_line offset status) 1 old new front → AddsFront offset bytes old new front
 refused_front offset bytes status old new (fronts.Frame size) e h = absurd h
 refused_front offset bytes status old new (fronts.End code) e h =
-    ap (behind (string_bytes old.text)) (header_front offset old.half.items bytes status e) ∙ (λ i. record { text = sym h.0 i; status = sym h.1 i })
+    ap (behind (string_bytes old.text)) (header_front offset (joined old.half.items) bytes status e) ∙ (λ i. record { text = sym h.0 i; status = sym h.1 i })
 
 pub refused_adds : {E : Type 0} (offset : ℕ) (bytes : List ℕ) (status : ℕ) (old new : Lines) (r : Result Front E) → header_fault longest bytes ≡ Some status → IfOk r (Ends (bad_line offset status) 1 old new) → IfOk r (AddsFront offset bytes old new)
 refused_adds offset bytes status old new (Ok front) e h = refused_front offset bytes status old new front e h
@@ -118,10 +119,10 @@ left_front offset [] old new (fronts.Frame size) passed none empty some = absurd
 left_front offset (b ∷ bytes) old new (fronts.Frame size) passed none empty some = absurd (some (omega arith))
 left_front offset [] old new (fronts.End code) passed none empty some =
     let h = empty refl in
-    ap (behind (string_bytes old.text)) (rest_front offset old.half.items [] none) ∙ (λ i. record { text = sym h.0 i; status = sym h.1 i })
+    ap (behind (string_bytes old.text)) (rest_front offset (joined old.half.items) [] none) ∙ (λ i. record { text = sym h.0 i; status = sym h.1 i })
 left_front offset (b ∷ bytes) old new (fronts.End code) passed none empty some =
     let h = some (omega arith) in
-    ap (behind (string_bytes old.text)) (rest_front offset old.half.items (b ∷ bytes) none ∙ cut_is offset (b ∷ bytes) None (omega arith) passed) ∙ (λ i. record { text = sym h.0 i; status = sym h.1 i })
+    ap (behind (string_bytes old.text)) (rest_front offset (joined old.half.items) (b ∷ bytes) none ∙ cut_is offset (b ∷ bytes) None (omega arith) passed) ∙ (λ i. record { text = sym h.0 i; status = sym h.1 i })
 
 pub left_adds : {E : Type 0} (offset : ℕ) (bytes : List ℕ) (old new : Lines) (r : Result Front E) → header_fault longest bytes ≡ None → ((n : ℕ) → n ≤ length bytes → IsFrame (take n bytes) → ⊥)
     → IfOk r (λ front. length bytes ≡ 0 → Ends [] 0 old new front) → IfOk r (λ front. 1 ≤ length bytes → Ends (rest_line offset (length bytes)) 1 old new front) → IfOk r (AddsFront offset bytes old new)

@@ -8,3 +8,7 @@ pub mod Captures
 pub mod Ends
 pub mod Stops
 pub mod Serving
+pub mod Digits
+pub mod FrameLines
+pub mod Texts
+pub mod PartLemmas

@@ -8,6 +8,7 @@ use Rattle.ua_chunk.specs.Content.{content_in, content_at}
 use Rattle.ua_chunk.specs.declared.content.Content.{Content}
 use Rattle.ua_chunk.specs.declared.content.Content.TheVariants.{Hello, Acknowledge, Error, Open, Message, Close}
 use Rattle.ua_command.specs.FrameLine.{frame_line, message_line, bad_line, rest_line}
+use Rattle.ua_command.specs.Parts.{joined}
 use Rattle.ua_command.specs.declared.capture.Lines.{Lines}
 use Rattle.ua_command.specs.declared.capture.Front.{Front}
 use Rattle.ua_command.specs.declared.capture.Front.TheVariants as fronts
@@ -93,12 +94,12 @@ Ends text status old new (fronts.End code) = (string_bytes new.text ≡ string_b
 abbrev pub AddsFrame : ℕ → Parts → Lines → Lines → Front → Type 0
 AddsFrame offset f old new (fronts.Frame size) =
     (content : Content) × (content_in f ≡ Ok content) × (size ≡ 8 + length f.fields)
-    × (string_bytes new.text ≡ string_bytes old.text ++ content_lines offset size old.half.items content) × (new.half.items ≡ half_after old.half.items content)
+    × (string_bytes new.text ≡ string_bytes old.text ++ content_lines offset size (joined old.half.items) content) × (joined new.half.items ≡ half_after (joined old.half.items) content)
 AddsFrame offset f old new (fronts.End status) = (fault : ℕ) × (content_in f ≡ Err fault) × (status ≡ 1) × (string_bytes new.text ≡ string_bytes old.text ++ bad_line offset fault)
 
 -- What is shown with the bytes still to come is the same after a frame as before it; at the end all is shown.
 abbrev pub AddsFront : ℕ → List ℕ → Lines → Lines → Front → Type 0
 AddsFront offset bytes old new (fronts.Frame size) =
     (1 ≤ size) × (size ≤ length bytes)
-    × (behind (string_bytes old.text) (shown_from offset old.half.items bytes) ≡ behind (string_bytes new.text) (shown_from (offset + size) new.half.items (drop size bytes)))
-AddsFront offset bytes old new (fronts.End status) = behind (string_bytes old.text) (shown_from offset old.half.items bytes) ≡ record { text = string_bytes new.text; status = status }
+    × (behind (string_bytes old.text) (shown_from offset (joined old.half.items) bytes) ≡ behind (string_bytes new.text) (shown_from (offset + size) (joined new.half.items) (drop size bytes)))
+AddsFront offset bytes old new (fronts.End status) = behind (string_bytes old.text) (shown_from offset (joined old.half.items) bytes) ≡ record { text = string_bytes new.text; status = status }

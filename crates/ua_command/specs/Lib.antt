@@ -12,3 +12,4 @@ pub mod Show
 pub mod Serve
 pub mod Ask
 pub mod Run
+pub mod Parts

@@ -4,8 +4,10 @@ ghost use Rattle.std.specs.Prelude.{◌≡◌, ◌≤◌, ◌++◌, [], length, 
 ghost use Rattle.ua_chunk.specs.declared.content.Content.TheVariants.{Message as carried};
 ghost use Rattle.ua_command.specs.Capture.{half_after, message_lines, content_lines, shown, Ends, AddsFrame, AddsFront};
 ghost use Rattle.ua_command.specs.FrameLine.{bad_line, rest_line};
+ghost use Rattle.ua_command.specs.Parts.{joined};
 
 use crate::frame_line::{add_bad, add_frame, add_message, add_rest};
+use crate::parts::add_parts;
 use std::alloc::{AllocError, Global};
 use ua_chunk::{Chunk, Content, ContentFault, content_of};
 use ua_frame::{Frame, frame_at};
@@ -17,11 +19,11 @@ const LONGEST: u32 = 1_048_576;
 /// Bytes of a frame's header.
 const HEADER: usize = 8;
 
-/// The lines so far, and the bodies of the MSG frames since the last that ended a message.
+/// The lines so far, and the bodies of the MSG frames since the last that ended a message, where they lie.
 #[derive(Drop)]
-struct Lines {
+struct Lines<'a> {
     text: String,
-    half: Vec<u8>,
+    half: Vec<&'a [u8]>,
 }
 
 /// What stands at the front of some bytes.
@@ -33,11 +35,11 @@ enum Front {
     End(u8),
 }
 
-/// Takes in the part of a message, and adds the message's line where it is whole with it. A message in one part is not
-/// copied.
-fn add_part(alloc: Global, lines: &mut Lines, chunk: &Chunk) -> Result<(), NoMemory>
-    ensures text { OnOk result (string_bytes lines.new.text ≡ string_bytes lines.old.text ++ message_lines lines.old.half.items (carried chunk.now)) }
-    ensures half { OnOk result (lines.new.half.items ≡ half_after lines.old.half.items (carried chunk.now)) }
+/// Takes in the part of a message, and adds the message's line where it is whole with it. Parts stay where they lie; one
+/// that has no bytes is not kept.
+fn add_part<'a>(alloc: Global, lines: &mut Lines<'a>, chunk: &Chunk<'a>) -> Result<(), NoMemory>
+    ensures text { OnOk result (string_bytes lines.new.text ≡ string_bytes lines.old.text ++ message_lines (joined lines.old.half.items) (carried chunk.now)) }
+    ensures half { OnOk result (joined lines.new.half.items ≡ half_after (joined lines.old.half.items) (carried chunk.now)) }
 {
     let body = chunk.body();
     match chunk.flag() {
@@ -46,8 +48,8 @@ fn add_part(alloc: Global, lines: &mut Lines, chunk: &Chunk) -> Result<(), NoMem
             add_message(alloc, &mut lines.text, chunk.request_id(), body)?;
         }
         b'F' => {
-            lines.half.extend_from_slice(body)?;
-            add_message(
+            lines.half.push(body)?;
+            add_parts(
                 alloc,
                 &mut lines.text,
                 chunk.request_id(),
@@ -55,21 +57,22 @@ fn add_part(alloc: Global, lines: &mut Lines, chunk: &Chunk) -> Result<(), NoMem
             )?;
             lines.half.clear();
         }
-        _ => lines.half.extend_from_slice(body)?,
+        _ if body.is_empty() => {}
+        _ => lines.half.push(body)?,
     }
     Ok(())
 }
 
 /// Adds the line of a frame of so many bytes, and that of the message that is whole with it.
-fn add_content(
+fn add_content<'a>(
     alloc: Global,
-    lines: &mut Lines,
+    lines: &mut Lines<'a>,
     offset: usize,
     size: usize,
-    content: &Content,
+    content: &Content<'a>,
 ) -> Result<(), NoMemory>
-    ensures text { OnOk result (string_bytes lines.new.text ≡ string_bytes lines.old.text ++ content_lines offset size lines.old.half.items content.now) }
-    ensures half { OnOk result (lines.new.half.items ≡ half_after lines.old.half.items content.now) }
+    ensures text { OnOk result (string_bytes lines.new.text ≡ string_bytes lines.old.text ++ content_lines offset size (joined lines.old.half.items) content.now) }
+    ensures half { OnOk result (joined lines.new.half.items ≡ half_after (joined lines.old.half.items) content.now) }
 {
     add_frame(&mut lines.text, offset, size, content)?;
     match content {
@@ -85,11 +88,11 @@ fn add_content(
 }
 
 /// Adds the lines of a frame.
-fn add_known(
+fn add_known<'a>(
     alloc: Global,
-    lines: &mut Lines,
+    lines: &mut Lines<'a>,
     offset: usize,
-    frame: &Frame,
+    frame: &Frame<'a>,
 ) -> Result<Front, NoMemory>
     ensures { IfOk result (AddsFrame offset frame.now lines.old lines.new) }
 {
@@ -128,11 +131,11 @@ fn add_left(lines: &mut Lines, offset: usize, bytes: &[u8]) -> Result<Front, NoM
 }
 
 /// Adds the lines of what the bytes begin with.
-fn add_front(
+fn add_front<'a>(
     alloc: Global,
-    lines: &mut Lines,
+    lines: &mut Lines<'a>,
     offset: usize,
-    bytes: &[u8],
+    bytes: &'a [u8],
 ) -> Result<Front, NoMemory>
     ensures { IfOk result (AddsFront offset bytes.now lines.old lines.new) }
 {
@@ -144,9 +147,9 @@ fn add_front(
 }
 
 /// Adds the lines of all frames where none were added yet, and gives the exit status.
-fn add_all(alloc: Global, lines: &mut Lines, bytes: &[u8]) -> Result<u8, NoMemory>
+fn add_all<'a>(alloc: Global, lines: &mut Lines<'a>, bytes: &'a [u8]) -> Result<u8, NoMemory>
     requires text { string_bytes lines.old.text ≡ [] }
-    requires half { lines.old.half.items ≡ [] }
+    requires half { joined lines.old.half.items ≡ [] }
     ensures text { IfOk result (λ _. string_bytes lines.new.text ≡ (shown bytes.now).text) }
     ensures status { IfOk result (λ status. status ≡ (shown bytes.now).status) }
 {

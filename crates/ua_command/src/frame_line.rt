@@ -1,10 +1,13 @@
 //! The lines of frames and messages.
 
-ghost use Rattle.std.specs.Prelude.{◌≡◌, ◌++◌, IfOk, OnOk, Some, string_bytes};
+ghost use Rattle.std.specs.Prelude.{◌≡◌, ◌≤◌, ◌++◌, codes, drop, IfOk, OnOk, Some, string_bytes};
 ghost use Rattle.std.specs.Option.{option_map};
-ghost use Rattle.ua_command.specs.FrameLine.{numbers_text, hello_text, acknowledge_text, error_text, open_text, chunk_text, content_text, frame_line, type_in, type_text, message_text, message_line, bad_line, rest_line};
+ghost use Rattle.std.specs.Str.{IsUtf8};
+ghost use Rattle.ua_chunk.specs.declared.content.Content.TheVariants.{Message as message, Close as close};
+ghost use Rattle.ua_command.specs.FrameLine.{numbers_text, hello_text, acknowledge_text, error_text, open_text, chunk_text, frame_line, type_in, type_text, message_text, message_line, bad_line, rest_line};
 
-use crate::text::{Code, Node, Text};
+use crate::row::{ROOM, add_number, add_row, put_number, put_word};
+use crate::text::{Code, Text, add_node};
 use std::alloc::{AllocError, Global};
 use std::fmt;
 use ua_chunk::{Chunk, Content, OpenChunk};
@@ -109,88 +112,83 @@ impl fmt::Display for OpenLine<'_> {
     }
 }
 
-/// What is said of a MSG or CLO.
-#[derive(Clone, Copy)]
-struct ChunkLine<'a>(&'a Chunk<'a>);
-
-impl fmt::Display for ChunkLine<'_> {
-    ghost output = { λ line. Some (chunk_text line.0.now) };
-
-    fn fmt<W: fmt::Write>(&self, f: &mut fmt::Formatter<W>) -> fmt::Result {
-        let chunk = self.0;
-        write!(
-            f,
-            "channel={} token={} sequence={} request={} body={}",
-            chunk.channel(),
-            chunk.token(),
-            chunk.sequence(),
-            chunk.request_id(),
-            chunk.body().len(),
-        )
-    }
+/// Puts what is said of a MSG or CLO at the end of a row, with a blank before it and the line's end behind it, and gives
+/// where it begins.
+fn put_chunk(chunk: &Chunk, row: &mut [u8; ROOM]) -> usize
+    ensures low { 110 ≤ result }
+    ensures high { result ≤ 256 }
+    ensures written { drop result row.new ≡ codes " " ++ chunk_text chunk.now ++ codes "\n" }
+    ensures utf8 { IsUtf8 (drop result row.new) }
+{
+    let at = put_word("\n", row, ROOM);
+    let at = put_number(" body=", chunk.body().len() as u64, row, at);
+    let at = put_number(" request=", u64::from(chunk.request_id()), row, at);
+    let at = put_number(" sequence=", u64::from(chunk.sequence()), row, at);
+    let at = put_number(" token=", u64::from(chunk.token()), row, at);
+    put_number(" channel=", u64::from(chunk.channel()), row, at)
 }
 
-/// What is said of a frame of so many bytes with this content.
-#[derive(Clone, Copy)]
-struct FrameLine<'a> {
+/// Appends the line of a MSG, which most frames are.
+#[tactic(auto, unfolding(crate::specs::FrameLine::frame_line))]
+fn add_message_frame(
+    text: &mut String,
+    offset: usize,
     size: usize,
-    content: &'a Content<'a>,
+    chunk: &Chunk,
+) -> Result<(), NoMemory>
+    ensures { OnOk result (string_bytes text.new ≡ string_bytes text.old ++ frame_line offset size (message chunk.now)) }
+{
+    let mut row = [0u8; ROOM];
+    let mut wide = [0u8; 4];
+    let flag = char::from(chunk.flag()).encode_utf8(&mut wide);
+    let at = put_chunk(chunk, &mut row);
+    let at = put_number(" ", size as u64, &mut row, at);
+    let at = put_word(flag, &mut row, at);
+    let at = put_word(" MSG ", &mut row, at);
+    let at = put_number("", offset as u64, &mut row, at);
+    add_row(text, &row, at)
 }
 
-impl fmt::Display for FrameLine<'_> {
-    ghost output = { λ line. Some (content_text line.size line.content.now) };
-
-    fn fmt<W: fmt::Write>(&self, f: &mut fmt::Formatter<W>) -> fmt::Result {
-        let size = self.size;
-        match self.content {
-            Content::Hello(hello) => write!(f, "HEL {size} {}", HelloLine(hello)),
-            Content::Acknowledge(ack) => write!(f, "ACK {size} {}", AcknowledgeLine(ack)),
-            Content::Error(error) => write!(f, "ERR {size} {}", ErrorLine(error)),
-            Content::Open(chunk) => write!(f, "OPN {size} {}", OpenLine(chunk)),
-            Content::Message(chunk) => {
-                let flag = char::from(chunk.flag());
-                write!(f, "MSG {flag} {size} {}", ChunkLine(chunk))
-            }
-            Content::Close(chunk) => write!(f, "CLO {size} {}", ChunkLine(chunk)),
-        }
-    }
-}
-
-/// The encoding id that a message begins with, or `?`.
-#[derive(Clone, Copy)]
-struct TypeId<'a>(Option<&'a NodeId>);
-
-impl fmt::Display for TypeId<'_> {
-    ghost output = { λ id. Some (type_text (option_map (λ n. n.now) id.0)) };
-
-    fn fmt<W: fmt::Write>(&self, f: &mut fmt::Formatter<W>) -> fmt::Result {
-        match self.0 {
-            Some(id) => write!(f, "{}", Node(id)),
-            None => f.write_str("?"),
-        }
-    }
-}
-
-/// The line of a message.
-#[derive(Clone, Copy)]
-struct MessageLine<'a> {
-    request_id: u32,
-    type_id: Option<&'a NodeId>,
+/// Appends the line of a CLO.
+#[tactic(auto, unfolding(crate::specs::FrameLine::frame_line))]
+fn add_close_frame(
+    text: &mut String,
+    offset: usize,
     size: usize,
+    chunk: &Chunk,
+) -> Result<(), NoMemory>
+    ensures { OnOk result (string_bytes text.new ≡ string_bytes text.old ++ frame_line offset size (close chunk.now)) }
+{
+    let mut row = [0u8; ROOM];
+    let at = put_chunk(chunk, &mut row);
+    let at = put_number(" CLO ", size as u64, &mut row, at);
+    let at = put_number("", offset as u64, &mut row, at);
+    add_row(text, &row, at)
 }
 
+/// Appends the encoding id that a message begins with, or `?`.
+fn add_type(text: &mut String, id: Option<&NodeId>) -> Result<(), NoMemory>
+    ensures { OnOk result (string_bytes text.new ≡ string_bytes text.old ++ type_text (option_map (λ n. n.now) id.entry)) }
+{
+    match id {
+        Some(id) => add_node(text, id),
+        None => text.push_str("?"),
+    }
+}
+
+/// Appends the line of a message of so many bytes.
 #[tactic(auto, unfolding(crate::specs::FrameLine::message_text))]
-impl fmt::Display for MessageLine<'_> {
-    ghost output = { λ m. Some (message_text m.request_id (option_map (λ n. n.now) m.type_id) m.size) };
-
-    fn fmt<W: fmt::Write>(&self, f: &mut fmt::Formatter<W>) -> fmt::Result {
-        let type_id = TypeId(self.type_id);
-        write!(
-            f,
-            "  message request={} type={type_id} size={}",
-            self.request_id, self.size,
-        )
-    }
+pub fn add_message_text(
+    text: &mut String,
+    request_id: u32,
+    id: Option<&NodeId>,
+    size: usize,
+) -> Result<(), NoMemory>
+    ensures { OnOk result (string_bytes text.new ≡ string_bytes text.old ++ (message_text request_id (option_map (λ n. n.now) id.entry) size ++ codes "\n")) }
+{
+    add_number(text, "  message request=", u64::from(request_id), " type=")?;
+    add_type(text, id)?;
+    add_number(text, " size=", size as u64, "\n")
 }
 
 /// Appends the line of the frame of so many bytes that begins at the offset. After an error a beginning of it may
@@ -204,7 +202,14 @@ pub fn add_frame(
 ) -> Result<(), NoMemory>
     ensures { OnOk result (string_bytes text.new ≡ string_bytes text.old ++ frame_line offset size content.now) }
 {
-    writeln!(text, "{offset} {}", FrameLine { size, content })
+    match content {
+        Content::Hello(hello) => writeln!(text, "{offset} HEL {size} {}", HelloLine(hello)),
+        Content::Acknowledge(ack) => writeln!(text, "{offset} ACK {size} {}", AcknowledgeLine(ack)),
+        Content::Error(error) => writeln!(text, "{offset} ERR {size} {}", ErrorLine(error)),
+        Content::Open(chunk) => writeln!(text, "{offset} OPN {size} {}", OpenLine(chunk)),
+        Content::Message(chunk) => add_message_frame(text, offset, size, chunk),
+        Content::Close(chunk) => add_close_frame(text, offset, size, chunk),
+    }
 }
 
 /// The most bytes that a reader takes, which no machine holds.
@@ -212,7 +217,7 @@ const MOST_BYTES: usize = 1 << 60;
 
 /// The encoding id that a message begins with, if any.
 #[tactic(auto, unfolding(crate::specs::FrameLine::type_in))]
-fn type_of(alloc: Global, body: &[u8]) -> Result<Option<NodeId>, NoMemory>
+pub fn type_of(alloc: Global, body: &[u8]) -> Result<Option<NodeId>, NoMemory>
     ensures { IfOk result (λ id. id ≡ type_in body.now) }
 {
     if body.len() > MOST_BYTES {
@@ -236,12 +241,7 @@ pub fn add_message(
     ensures { OnOk result (string_bytes text.new ≡ string_bytes text.old ++ message_line request_id body.now) }
 {
     let id = type_of(alloc, body)?;
-    let line = MessageLine {
-        request_id,
-        type_id: id.as_ref(),
-        size: body.len(),
-    };
-    writeln!(text, "{line}")
+    add_message_text(text, request_id, id.as_ref(), body.len())
 }
 
 /// Appends the line of a frame, or of what should be one, that is refused with this status. After an error a beginning

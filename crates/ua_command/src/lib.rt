@@ -8,6 +8,8 @@ mod command;
 mod file;
 mod frame_line;
 mod input;
+mod parts;
+mod row;
 pub mod run;
 mod script;
 mod serve;

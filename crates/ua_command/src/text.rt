@@ -1,13 +1,13 @@
 //! Texts, node ids and statuses as the command prints them.
 
-ghost use Rattle.std.specs.Prelude.{◌≡◌, ◌<◌, ◌∷◌, [], Some};
-ghost use Rattle.std.specs.Char.{encode_utf8};
+ghost use Rattle.std.specs.Prelude.{◌≡◌, ◌<◌, ◌≤◌, ◌∷◌, ◌++◌, [], length, take, IsAscii, IsTrue, false, OnOk, Some, string_bytes};
 ghost use Rattle.std.specs.List.{flat_map};
 ghost use Rattle.std.specs.Option.{option_map};
-ghost use Rattle.ua_command.specs.Printed.{escaped, hex_digit, two_digits, quoted, node_text, status_text};
+ghost use Rattle.ua_command.specs.Printed.{escaped, hex_digit, two_digits, quoted, identifier_text, node_text, status_text};
 
+use crate::row::add_number;
 use std::fmt;
-use ua_value::{Identifier, NodeId};
+use ua_value::{Identifier, NoMemory, NodeId};
 
 /// A text, or none: `null`, or the bytes between double quotes, of which all but the printable
 /// ones of ASCII, and the double quote and the backslash, are `\x` and two lower-case digits.
@@ -33,11 +33,58 @@ impl fmt::Display for Inner<'_> {
     ghost output = { λ t. Some (flat_map escaped t.0.now) };
 
     fn fmt<W: fmt::Write>(&self, f: &mut fmt::Formatter<W>) -> fmt::Result {
-        'bytes: for byte in self.0 {
-            write!(f, "{}", Escaped(*byte))?;
+        let bytes = self.0;
+        let mut start = 0;
+        'runs: while start < bytes.len() {
+            let run = plain_run(&bytes[start..]);
+            if run.is_empty() {
+                write!(f, "{}", Escaped(bytes[start]))?;
+                start += 1;
+            } else {
+                f.write_str(run)?;
+                start += run.len();
+            }
         }
         Ok(())
     }
+}
+
+/// Whether a byte stands for itself between double quotes.
+fn is_plain(byte: u8) -> bool
+    ensures same { IsTrue result → escaped byte ≡ byte ∷ [] }
+    ensures ascii { IsTrue result → byte < 128 }
+    ensures other { result ≡ false → escaped byte ≡ 92 ∷ 120 ∷ two_digits byte }
+{
+    match byte {
+        b'"' | b'\\' => false,
+        b' '..=b'~' => true,
+        _ => false,
+    }
+}
+
+/// How many bytes at the front stand for themselves.
+fn plain_len(bytes: &[u8]) -> usize
+    ensures within { result ≤ length bytes.now }
+    ensures same { flat_map escaped (take result bytes.now) ≡ take result bytes.now }
+    ensures ascii { IsAscii (take result bytes.now) }
+{
+    let mut n = 0;
+    'plain: while n < bytes.len() {
+        if !is_plain(bytes[n]) {
+            return n;
+        }
+        n += 1;
+    }
+    n
+}
+
+/// The longest text at the front of the bytes that stands for itself, which is written at once.
+fn plain_run(bytes: &[u8]) -> &str
+    ensures within { length result.now ≤ length bytes.now }
+    ensures front { result.now ≡ take (length result.now) bytes.now }
+    ensures same { flat_map escaped result.now ≡ result.now }
+{
+    unsafe { std::str::from_utf8_unchecked(&bytes[..plain_len(bytes)]) }
 }
 
 /// One byte of a text between double quotes.
@@ -49,11 +96,11 @@ impl fmt::Display for Escaped {
 
     fn fmt<W: fmt::Write>(&self, f: &mut fmt::Formatter<W>) -> fmt::Result {
         let byte = self.0;
-        match byte {
-            b'"' | b'\\' => write!(f, "\\x{}", Byte(byte)),
-            b' '..=b'~' => f.write_char(char::from(byte)),
-            _ => write!(f, "\\x{}", Byte(byte)),
+        if is_plain(byte) {
+            return f.write_char(char::from(byte));
         }
+        let four = [b'\\', b'x', digit(byte / 16), digit(byte % 16)];
+        f.write_str(unsafe { std::str::from_utf8_unchecked(&four) })
     }
 }
 
@@ -66,27 +113,23 @@ impl fmt::Display for Byte {
 
     fn fmt<W: fmt::Write>(&self, f: &mut fmt::Formatter<W>) -> fmt::Result {
         let byte = self.0;
-        f.write_char(digit(byte / 16))?;
-        f.write_char(digit(byte % 16))
+        let two = [digit(byte / 16), digit(byte % 16)];
+        f.write_str(unsafe { std::str::from_utf8_unchecked(&two) })
     }
 }
 
 /// A hex digit in lower case.
-fn digit(n: u8) -> char
+fn digit(n: u8) -> u8
     requires { n < 16 }
     ensures digit { result ≡ hex_digit n }
-    ensures ascii { encode_utf8 result ≡ hex_digit n ∷ [] }
+    ensures ascii { result < 128 }
 {
-    if n < 10 {
-        char::from(b'0' + n)
-    } else {
-        char::from(b'a' + (n - 10))
-    }
+    if n < 10 { b'0' + n } else { b'a' + (n - 10) }
 }
 
 /// Bytes as hex digits in lower case.
 #[derive(Clone, Copy)]
-pub struct Hex<'a>(pub &'a [u8]);
+struct Hex<'a>(&'a [u8]);
 
 impl fmt::Display for Hex<'_> {
     ghost output = { λ h. Some (flat_map two_digits h.0.now) };
@@ -99,29 +142,32 @@ impl fmt::Display for Hex<'_> {
     }
 }
 
-/// A node id: `i=` and a number, `s=` and a text, `g=` and a Guid, or `b=` and hex digits or
-/// `null`; before it `ns=`, the number of the namespace and `;` where that is not 0.
-#[derive(Clone, Copy)]
-pub struct Node<'a>(pub &'a NodeId);
-
-impl fmt::Display for Node<'_> {
-    ghost output = { λ n. Some (node_text n.0.now) };
-
-    fn fmt<W: fmt::Write>(&self, f: &mut fmt::Formatter<W>) -> fmt::Result {
-        let namespace = self.0.namespace_index;
-        if namespace != 0 {
-            write!(f, "ns={namespace};")?;
-        }
-        match &self.0.identifier {
-            Identifier::Numeric(id) => write!(f, "i={id}"),
-            Identifier::String(text) => write!(f, "s={}", Text(text.get().map(str::as_bytes))),
-            Identifier::Guid(guid) => write!(f, "g={guid}"),
-            Identifier::Opaque(bytes) => match bytes.get() {
-                Some(bytes) => write!(f, "b={}", Hex(bytes)),
-                None => f.write_str("b=null"),
-            },
-        }
+/// Appends what tells a node from the others of its namespace: `i=` and a number, `s=` and a text, `g=` and a Guid, or
+/// `b=` and hex digits or `null`.
+fn add_identifier(text: &mut String, identifier: &Identifier) -> Result<(), NoMemory>
+    ensures { OnOk result (string_bytes text.new ≡ string_bytes text.old ++ identifier_text identifier.now) }
+{
+    match identifier {
+        Identifier::Numeric(id) => add_number(text, "i=", u64::from(*id), ""),
+        Identifier::String(name) => write!(text, "s={}", Text(name.get().map(str::as_bytes))),
+        Identifier::Guid(guid) => write!(text, "g={guid}"),
+        Identifier::Opaque(bytes) => match bytes.get() {
+            Some(bytes) => write!(text, "b={}", Hex(bytes)),
+            None => text.push_str("b=null"),
+        },
     }
+}
+
+/// Appends a node id: before its identifier `ns=`, the number of the namespace and `;` where that is not 0. After an
+/// error a beginning of it may stand there.
+pub fn add_node(text: &mut String, node: &NodeId) -> Result<(), NoMemory>
+    ensures { OnOk result (string_bytes text.new ≡ string_bytes text.old ++ node_text node.now) }
+{
+    let namespace = node.namespace_index;
+    if namespace != 0 {
+        add_number(text, "ns=", u64::from(namespace), ";")?;
+    }
+    add_identifier(text, &node.identifier)
 }
 
 /// A status as eight hex digits in upper case.

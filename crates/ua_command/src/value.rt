@@ -1,13 +1,13 @@
 //! The command `value`: reads one value of a built-in type, and prints what it is.
 
-ghost use Rattle.std.specs.Prelude.{◌≡◌, ◌≤◌, length, IfOk, IfErr, string_bytes, Ok, Err};
+ghost use Rattle.std.specs.Prelude.{◌≡◌, ◌≤◌, ◌++◌, length, IfOk, IfErr, OnOk, string_bytes, Ok, Err};
 ghost use Rattle.ua_value.specs.Format.{Reads, input_limit};
-ghost use Rattle.ua_command.specs.Printed.{value_lines, shape_of, two_lines, Prints, PrintsOnto, RefusesOnto};
+ghost use Rattle.ua_command.specs.Printed.{value_lines, text_line, node_text, shape_of, two_lines, Prints, PrintsOnto, RefusesOnto};
 ghost use Rattle.ua_command.specs.Stop.{IsFileStop, IsQuiet};
 ghost use Rattle.ua_kind.specs.declared.kind.Kind.TheVariants.{Guid as guid_type, NodeId as node_id_type};
 
 use crate::stop::{Stop, print};
-use crate::text::Node;
+use crate::text::add_node;
 use std::alloc::Global;
 use std::io::Write;
 use ua_value::{
@@ -73,6 +73,15 @@ fn guid(alloc: Global, bytes: &[u8]) -> Result<String, ReadFault>
     Ok(lines)
 }
 
+/// Appends the third line of a node id. After an error a beginning of it may stand there.
+fn add_node_line(text: &mut String, node: &NodeId) -> Result<(), NoMemory>
+    ensures { OnOk result (string_bytes text.new ≡ string_bytes text.old ++ text_line (node_text node.now)) }
+{
+    text.push_str("text ")?;
+    add_node(text, node)?;
+    text.push_str("\n")
+}
+
 fn node_id(alloc: Global, bytes: &[u8]) -> Result<String, ReadFault>
     requires { length bytes.now ≤ input_limit }
     ensures ok { IfOk result (λ text. Prints (shape_of node_id_type) bytes.now (string_bytes text)) }
@@ -80,7 +89,7 @@ fn node_id(alloc: Global, bytes: &[u8]) -> Result<String, ReadFault>
 {
     let found = read_value::<NodeId>(alloc, bytes)?;
     let mut lines = lines(alloc, found.used, bytes.len(), found.canon.as_slice())?;
-    writeln!(lines, "text {}", Node(&found.value))?;
+    add_node_line(&mut lines, &found.value)?;
     Ok(lines)
 }
 
