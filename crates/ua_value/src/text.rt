@@ -44,6 +44,10 @@ fn text_of(bytes: &[u8]) -> Option<&str>
     if bytes.len() >= LONG {
         return long_text_of(bytes);
     }
+    // Most texts are ASCII, which is seen many bytes at a time.
+    if bytes.is_ascii() {
+        return Some(unsafe { std::str::from_utf8_unchecked(bytes) });
+    }
     match std::str::from_utf8(bytes) {
         Ok(text) => Some(text),
         Err(_) => None,
