@@ -134,5 +134,14 @@ impl Wire for ApplicationDescription {
         }
     }
 
+    fn read_items(
+        alloc: Global,
+        count: u32,
+        input: &[u8],
+    ) -> Result<(Vec<ApplicationDescription>, &[u8]), ReadFault> {
+        // None takes fewer than 25 bytes.
+        Self::read_each(alloc, 0, input.len() / 25, count, input)
+    }
+
     ghost laws = { lawful_application_description };
 }

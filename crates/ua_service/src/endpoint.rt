@@ -96,6 +96,15 @@ impl Wire for UserTokenPolicy {
         }
     }
 
+    fn read_items(
+        alloc: Global,
+        count: u32,
+        input: &[u8],
+    ) -> Result<(Vec<UserTokenPolicy>, &[u8]), ReadFault> {
+        // None takes fewer than 20 bytes.
+        Self::read_each(alloc, 0, input.len() / 20, count, input)
+    }
+
     ghost laws = { lawful_user_token_policy };
 }
 
@@ -236,6 +245,15 @@ impl Wire for EndpointDescription {
             )),
             Err(fault) => Err(fault),
         }
+    }
+
+    fn read_items(
+        alloc: Global,
+        count: u32,
+        input: &[u8],
+    ) -> Result<(Vec<EndpointDescription>, &[u8]), ReadFault> {
+        // None takes fewer than 50 bytes.
+        Self::read_each(alloc, 0, input.len() / 50, count, input)
     }
 
     ghost laws = { lawful_endpoint_description };

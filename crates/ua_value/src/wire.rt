@@ -114,7 +114,7 @@ pub trait Wire: Sized + Drop {
     }
 
     /// How many values so many bytes can spell at the most, where that is told by the shortest spelling; else 0. A list is
-    /// read into room for no more than these, and grows with those that follow.
+    /// read into room for no more than these, unless its type says another room, and grows with those that follow.
     fn most_in(bytes: usize) -> usize
         ensures { result ≤ bytes }
     {
@@ -132,12 +132,35 @@ pub trait Wire: Sized + Drop {
         ensures gives { Gives (λ x. (x.0.items, x.1.now)) result (items_at format.grammar count input.now) }
         ensures shorter { IfOk result (λ x. length x.1.now ≤ length input.now) }
     {
-        let room = Self::most_in(input.len()).min(count as usize);
-        let mut items = Vec::with_capacity(alloc, room)?;
+        Self::read_each(alloc, Self::most_in(input.len()), 1, count, input)
+    }
+
+    /// The same. The list has room for `room` values, or for all where they are fewer, before the first is read, and then
+    /// for `more`, or for all, with the first. A type whose lists need other room says so in its `read_items`.
+    ///
+    /// # Errors
+    ///
+    /// As of `read_items`. A growth is asked for after the value that it is for was read.
+    fn read_each(
+        alloc: Global,
+        room: usize,
+        more: usize,
+        count: u32,
+        input: &[u8],
+    ) -> Result<(Vec<Self>, &[u8]), ReadFault>
+        requires { length input.now ≤ input_limit }
+        ensures gives { Gives (λ x. (x.0.items, x.1.now)) result (items_at format.grammar count input.now) }
+        ensures shorter { IfOk result (λ x. length x.1.now ≤ length input.now) }
+    {
+        let mut items = Vec::with_capacity(alloc, room.min(count as usize))?;
+        let mut wanted = more.min(count as usize).max(1);
         let mut rest = input;
         for _ in 0..count {
             let (item, after) = Self::read_front(alloc, rest)?;
-            items.push(item)?;
+            // `push` could hand the item back, so it would copy it once more for each.
+            items.reserve(wanted)?;
+            items.push_reserved(item);
+            wanted = 1;
             rest = after;
         }
         Ok((items, rest))
