@@ -1,17 +1,16 @@
 -- The elements of an array in memory.
-use Rattle.std.proofs.Common.{◌≡◌, ℕ, ℤ, true, zero, suc, ◌+◌, ◌<◌, ◌≤◌, List, [], ◌∷◌, ◌++◌, map, length, get_or, Option, Some, None, refl, sym, ap, subst, ◌∙◌, append_assoc, arith, is_some}
+use Rattle.std.proofs.Common.{◌≡◌, ℕ, ℤ, true, zero, suc, ◌<◌, ◌≤◌, List, [], ◌∷◌, ◌++◌, map, length, get_or, Option, Some, None, refl, sym, ap, subst, ◌∙◌, append_assoc, arith, is_some}
+use Rattle.std.specs.Prelude.{IfSome}
 use Rattle.std.specs.List.{flat_map}
 use Rattle.std.proofs.lemmas.List.Concat.{flat_map-cons}
 use Rattle.ua_value.specs.Format.{AppendsPart}
-use Rattle.ua_value.specs.Text as text
-use Rattle.std.specs.Global.{Vec}
 use Rattle.ua_kind.specs.declared.kind.Kind as code_kind
 use Rattle.ua_variant.specs.declared.variant.Element as code
 use Rattle.ua_variant.specs.declared.variant.Elements as code_elements
 use Rattle.ua_variant.specs.declared.variant.Body.{Body}
 use Rattle.ua_variant.specs.declared.variant.Body.TheVariants as bodies
 use Rattle.ua_variant.specs.Kinds.{Kind}
-use Rattle.ua_variant.specs.Values.{Element, Variant, depth, element_depth, items_depth, list_depth, items_of, count, array_with}
+use Rattle.ua_variant.specs.Values.{Element, Variant, depth, element_depth, items_depth, list_depth, items_of, count, array_with, AllOf}
 use Rattle.ua_variant.specs.Spelling.{canon, element_canon, shape_canon, head_of, IsVariant, IsSound}
 use Rattle.ua_variant.specs.Lists.{canon_of_items, canon_of_list, IsShortList}
 use Rattle.ua_variant.specs.View.{element, items_in, body_of, kind_of}
@@ -54,6 +53,13 @@ short_list k (Some es) ds h = (omega (arith, h.0, count_items es), h.1)
 
 pub short : (b : Body) (k : code_kind.Kind) (es : code_elements.Elements) (ds : Option (List ℤ)) → b ≡ bodies.Array k es ds → IsVariant (body_of b) → IsShortList (items_in es.list)
 short b k es ds e h = short_list (kind_of k) (items_in es.list) ds (subst (λ (x : Body). IsVariant (body_of x)) e h).sound
+
+same_list : (k : Kind) (o : Option (List Element)) (ds : Option (List ℤ)) → IsSound (array_with k o ds) → IfSome o (λ es. AllOf k (items_of es))
+same_list k None ds h = tt
+same_list k (Some es) ds h = h.2
+
+pub alike : (b : Body) (k : code_kind.Kind) (es : code_elements.Elements) (ds : Option (List ℤ)) → b ≡ bodies.Array k es ds → IsVariant (body_of b) → IfSome (items_in es.list) (λ l. AllOf (kind_of k) (items_of l))
+alike b k es ds e h = same_list (kind_of k) (items_in es.list) ds (subst (λ (x : Body). IsVariant (body_of x)) e h).sound
 
 list_canon : (k : Kind) (o : Option (List Element)) (ds : Option (List ℤ)) → canon (array_with k o ds) ≡ head_of k (is_some ds) true ∷ (canon_of_list o ++ shape_canon ds)
 list_canon k None ds = refl

@@ -12,7 +12,7 @@ unfolding kind_named
 not_null zero k h e = absurd cc
 not_null (suc m) k h e = absurd (omega arith)
 
-behind_plain : (d m : ℕ) (k : Kind) (rest : List ℕ) → bit_and m 0x80 ≡ 0 → bit_and m 0x40 ≡ 0 → kind_named (low_bits m) ≡ Some k → kind_number k ≤ 22
+pub behind_plain : (d m : ℕ) (k : Kind) (rest : List ℕ) → bit_and m 0x80 ≡ 0 → bit_and m 0x40 ≡ 0 → kind_named (low_bits m) ≡ Some k → kind_number k ≤ 22
     → (behind_head (elements_within d) m).front rest ≡ (made one_of (leaves k)).front rest
 behind_plain d m (plain p) rest a b named few = rw (ne_eqb m 0 (not_null m (plain p) named), named, a, b) refl
 behind_plain d m data_kind rest a b named few = absurd (omega arith)

@@ -106,3 +106,34 @@ lawful_of status_code = status.lawful_status_code
 lawful_of qualified_name = names.lawful_qualified_name
 lawful_of localized_text = lawful_localized
 lawful_of extension_object = lawful_extension_object
+
+-- the bytes of each value of a kind, where a list of it is measured by its count; else 0
+abbrev pub plain_width : Plain → ℕ
+plain_width boolean = 1
+plain_width sbyte = 1
+plain_width byte = 1
+plain_width int16 = 2
+plain_width uint16 = 2
+plain_width int32 = 4
+plain_width uint32 = 4
+plain_width int64 = 8
+plain_width uint64 = 8
+plain_width float = 4
+plain_width double = 8
+plain_width string = 0
+plain_width date_time = 8
+plain_width guid = 0
+plain_width byte_string = 0
+plain_width xml_element = 0
+plain_width node_id = 0
+plain_width expanded_node_id = 0
+plain_width status_code = 4
+plain_width qualified_name = 0
+plain_width localized_text = 0
+plain_width extension_object = 0
+
+abbrev pub width : Kind → ℕ
+width (plain p) = plain_width p
+width data_kind = 0
+width variant_kind = 0
+width info_kind = 0

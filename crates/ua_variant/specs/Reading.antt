@@ -83,3 +83,7 @@ DataCountsMore (mask ∷ rest) = (has mask 0x01 ≡ true) × VariantCountsMore r
 
 abbrev pub elements_within : ℕ → Kind → Grammar Element
 elements_within d = elements (within d) (data_within d) (diagnostics.within d)
+
+-- at most so deep, a DataValue begins the input whose value is a single one of the kind; the rest follows its mask and that kind
+abbrev pub IsNumberAhead : ℕ → Kind → ℕ → List ℕ → List ℕ → Type 0
+IsNumberAhead d k mask rest input = (data_within d).front input ≡ (behind_mask (made one_of (leaves k)) mask).front rest

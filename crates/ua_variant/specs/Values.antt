@@ -56,6 +56,10 @@ abbrev mutual
   data_depth (without s) = 1
   data_depth (with_value v s) = suc (depth v)
 
+-- it holds no other value
+abbrev pub IsFlat : Element → Type 0
+IsFlat e = (element_depth e ≡ 0) × (is_variant (kind e) ≡ false)
+
 abbrev pub count : Items → ℕ
 count no_items = 0
 count (item e es) = suc (count es)

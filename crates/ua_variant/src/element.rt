@@ -20,6 +20,9 @@ use ua_value::{
     ReadFault, StatusCode, UaBytes, UaString, Wire, XmlElement,
 };
 
+/// The last of the kinds that are truth values or numbers, by its number.
+pub(crate) const LAST_NUMBER: u8 = 11;
+
 impl Element {
     /// The kind of the value.
     pub fn kind(&self) -> Kind

@@ -1,8 +1,9 @@
 //! Types of plain values, as what stands in a Variant.
 
-ghost use Rattle.std.specs.Prelude.{◌≡◌, ℕ};
+ghost use Rattle.std.specs.Prelude.{◌≡◌, refl};
 ghost use Rattle.ua_variant.specs.Kinds as kinds;
 ghost use Rattle.ua_variant.specs.Values as values;
+ghost use Rattle.ua_variant.specs.Values.{IsFlat};
 ghost use Rattle.ua_variant.specs.Reading.{leaf_of};
 ghost use Rattle.ua_variant.specs.View.{element};
 
@@ -18,6 +19,9 @@ pub(crate) trait Leaf: Wire {
     // the value as what stands in a Variant
     ghost wrap: { Self → values.Element };
 
+    // it holds no other value
+    ghost flat: { (v : Self) → IsFlat (wrap v) };
+
     /// The value as an element.
     fn into_element(self) -> Element
         ensures { element result ≡ wrap self };
@@ -25,6 +29,8 @@ pub(crate) trait Leaf: Wire {
 
 impl Leaf for bool {
     ghost wrap = { leaf_of kinds.boolean };
+
+    ghost flat = { λ v. (refl, refl) };
 
     #[inline(always)]
     fn into_element(self) -> Element {
@@ -35,6 +41,8 @@ impl Leaf for bool {
 impl Leaf for i8 {
     ghost wrap = { leaf_of kinds.sbyte };
 
+    ghost flat = { λ v. (refl, refl) };
+
     #[inline(always)]
     fn into_element(self) -> Element {
         Element::SByte(self)
@@ -43,6 +51,8 @@ impl Leaf for i8 {
 
 impl Leaf for u8 {
     ghost wrap = { leaf_of kinds.byte };
+
+    ghost flat = { λ v. (refl, refl) };
 
     #[inline(always)]
     fn into_element(self) -> Element {
@@ -53,6 +63,8 @@ impl Leaf for u8 {
 impl Leaf for i16 {
     ghost wrap = { leaf_of kinds.int16 };
 
+    ghost flat = { λ v. (refl, refl) };
+
     #[inline(always)]
     fn into_element(self) -> Element {
         Element::Int16(self)
@@ -61,6 +73,8 @@ impl Leaf for i16 {
 
 impl Leaf for u16 {
     ghost wrap = { leaf_of kinds.uint16 };
+
+    ghost flat = { λ v. (refl, refl) };
 
     #[inline(always)]
     fn into_element(self) -> Element {
@@ -71,6 +85,8 @@ impl Leaf for u16 {
 impl Leaf for i32 {
     ghost wrap = { leaf_of kinds.int32 };
 
+    ghost flat = { λ v. (refl, refl) };
+
     #[inline(always)]
     fn into_element(self) -> Element {
         Element::Int32(self)
@@ -79,6 +95,8 @@ impl Leaf for i32 {
 
 impl Leaf for u32 {
     ghost wrap = { leaf_of kinds.uint32 };
+
+    ghost flat = { λ v. (refl, refl) };
 
     #[inline(always)]
     fn into_element(self) -> Element {
@@ -89,6 +107,8 @@ impl Leaf for u32 {
 impl Leaf for i64 {
     ghost wrap = { leaf_of kinds.int64 };
 
+    ghost flat = { λ v. (refl, refl) };
+
     #[inline(always)]
     fn into_element(self) -> Element {
         Element::Int64(self)
@@ -97,6 +117,8 @@ impl Leaf for i64 {
 
 impl Leaf for u64 {
     ghost wrap = { leaf_of kinds.uint64 };
+
+    ghost flat = { λ v. (refl, refl) };
 
     #[inline(always)]
     fn into_element(self) -> Element {
@@ -107,6 +129,8 @@ impl Leaf for u64 {
 impl Leaf for FloatBits {
     ghost wrap = { leaf_of kinds.float };
 
+    ghost flat = { λ v. (refl, refl) };
+
     #[inline(always)]
     fn into_element(self) -> Element {
         Element::Float(self)
@@ -115,6 +139,8 @@ impl Leaf for FloatBits {
 
 impl Leaf for DoubleBits {
     ghost wrap = { leaf_of kinds.double };
+
+    ghost flat = { λ v. (refl, refl) };
 
     #[inline(always)]
     fn into_element(self) -> Element {
@@ -125,6 +151,8 @@ impl Leaf for DoubleBits {
 impl Leaf for UaString {
     ghost wrap = { leaf_of kinds.string };
 
+    ghost flat = { λ v. (refl, refl) };
+
     #[inline(always)]
     fn into_element(self) -> Element {
         Element::String(self)
@@ -133,6 +161,8 @@ impl Leaf for UaString {
 
 impl Leaf for DateTime {
     ghost wrap = { leaf_of kinds.date_time };
+
+    ghost flat = { λ v. (refl, refl) };
 
     #[inline(always)]
     fn into_element(self) -> Element {
@@ -143,6 +173,8 @@ impl Leaf for DateTime {
 impl Leaf for Guid {
     ghost wrap = { leaf_of kinds.guid };
 
+    ghost flat = { λ v. (refl, refl) };
+
     #[inline(always)]
     fn into_element(self) -> Element {
         Element::Guid(self)
@@ -151,6 +183,8 @@ impl Leaf for Guid {
 
 impl Leaf for UaBytes {
     ghost wrap = { leaf_of kinds.byte_string };
+
+    ghost flat = { λ v. (refl, refl) };
 
     #[inline(always)]
     fn into_element(self) -> Element {
@@ -161,6 +195,8 @@ impl Leaf for UaBytes {
 impl Leaf for XmlElement {
     ghost wrap = { leaf_of kinds.xml_element };
 
+    ghost flat = { λ v. (refl, refl) };
+
     #[inline(always)]
     fn into_element(self) -> Element {
         Element::XmlElement(self)
@@ -169,6 +205,8 @@ impl Leaf for XmlElement {
 
 impl Leaf for NodeId {
     ghost wrap = { leaf_of kinds.node_id };
+
+    ghost flat = { λ v. (refl, refl) };
 
     #[inline(always)]
     fn into_element(self) -> Element {
@@ -179,6 +217,8 @@ impl Leaf for NodeId {
 impl Leaf for ExpandedNodeId {
     ghost wrap = { leaf_of kinds.expanded_node_id };
 
+    ghost flat = { λ v. (refl, refl) };
+
     #[inline(always)]
     fn into_element(self) -> Element {
         Element::ExpandedNodeId(self)
@@ -187,6 +227,8 @@ impl Leaf for ExpandedNodeId {
 
 impl Leaf for StatusCode {
     ghost wrap = { leaf_of kinds.status_code };
+
+    ghost flat = { λ v. (refl, refl) };
 
     #[inline(always)]
     fn into_element(self) -> Element {
@@ -197,6 +239,8 @@ impl Leaf for StatusCode {
 impl Leaf for QualifiedName {
     ghost wrap = { leaf_of kinds.qualified_name };
 
+    ghost flat = { λ v. (refl, refl) };
+
     #[inline(always)]
     fn into_element(self) -> Element {
         Element::QualifiedName(self)
@@ -206,6 +250,8 @@ impl Leaf for QualifiedName {
 impl Leaf for LocalizedText {
     ghost wrap = { leaf_of kinds.localized_text };
 
+    ghost flat = { λ v. (refl, refl) };
+
     #[inline(always)]
     fn into_element(self) -> Element {
         Element::LocalizedText(self)
@@ -214,6 +260,8 @@ impl Leaf for LocalizedText {
 
 impl Leaf for ExtensionObject {
     ghost wrap = { leaf_of kinds.extension_object };
+
+    ghost flat = { λ v. (refl, refl) };
 
     #[inline(always)]
     fn into_element(self) -> Element {

@@ -19,6 +19,7 @@ mod parts;
 mod picoseconds;
 mod reading;
 mod shape;
+mod short;
 mod stamps;
 mod variant;
 mod wire;

@@ -53,6 +53,20 @@ impl Stamps {
         ensures gives { Gives (λ x. (x.0, x.1.now)) result ((stamps.behind mask).front input.now) }
         ensures shorter { IfOk result (λ x. length x.1.now ≤ length input.now) }
     {
+        Stamps::read_in_line(alloc, mask, input)
+    }
+
+    /// The same in line.
+    #[inline(always)]
+    pub(crate) fn read_in_line(
+        alloc: Global,
+        mask: u8,
+        input: &[u8],
+    ) -> Result<(Stamps, &[u8]), ReadFault>
+        requires { length input.now ≤ input_limit }
+        ensures gives { Gives (λ x. (x.0, x.1.now)) result ((stamps.behind mask).front input.now) }
+        ensures shorter { IfOk result (λ x. length x.1.now ≤ length input.now) }
+    {
         let (status, rest) = read_kept(alloc, mask & 0x02 != 0, input)?;
         let (source_timestamp, rest) = read_kept(alloc, mask & 0x04 != 0, rest)?;
         let (source_picoseconds, rest) = read_kept(alloc, mask & 0x10 != 0, rest)?;

@@ -6,7 +6,7 @@ ghost use Rattle.ua_variant.specs.Formats.{variant_format, lawful_variant, data_
 ghost use Rattle.ua_variant.specs.Reading.{VariantCountsMore, DataCountsMore};
 
 use crate::copying::{copy_data, copy_variant};
-use crate::reading::{data_within, variant_within};
+use crate::reading::{data_front, variant_within};
 use crate::variant::{DataValue, Variant};
 use crate::writing::{data_len, emit_data, emit_variant, variant_len};
 use std::alloc::Global;
@@ -87,7 +87,7 @@ impl Wire for DataValue {
         ensures memory { IfErr result (λ e. e ≡ ReadFault.NoMemory → Unit {0}) }
         ensures counted { DataCountsMore input.now → result ≡ Err ReadFault.Refused }
     {
-        data_within(alloc, input, allowance())
+        data_front(alloc, input, allowance())
     }
 
     fn read(alloc: Global, input: &[u8]) -> Result<(DataValue, usize), ReadFault>
@@ -100,6 +100,15 @@ impl Wire for DataValue {
             Ok((value, rest)) => Ok((value, input.len() - rest.len())),
             Err(fault) => Err(fault),
         }
+    }
+
+    fn read_items(
+        alloc: Global,
+        count: u32,
+        input: &[u8],
+    ) -> Result<(Vec<DataValue>, &[u8]), ReadFault> {
+        // Most take eight bytes or more; a list of shorter ones grows.
+        Self::read_each(alloc, 0, input.len() / 8, count, input)
     }
 
     ghost laws = { lawful_data };

@@ -1,19 +1,22 @@
 //! The canonical spellings of variants and data values, and their lengths.
 
-ghost use Rattle.std.specs.Prelude.{◌≡◌, ◌≤◌, ◌+◌, ◌*◌, ◌++◌, is_some, length, map, true, OnOk, OnErr};
+ghost use Rattle.std.specs.Prelude.{◌≡◌, ◌≤◌, ◌+◌, ◌*◌, ◌++◌, is_some, length, map, true, IfSome, OnOk, OnErr};
 ghost use Rattle.ua_value.specs.Format.{AppendsPart, input_limit};
-ghost use Rattle.ua_variant.specs.Values.{depth, data_depth, element_depth};
+ghost use Rattle.ua_variant.specs.Kinds.{width};
+ghost use Rattle.ua_variant.specs.Values.{depth, data_depth, element_depth, AllOf, items_of};
 ghost use Rattle.ua_variant.specs.Spelling.{head_of, canon, element_canon, data_canon, shape_canon};
 ghost use Rattle.ua_variant.specs.Lists.{canon_of_items, canon_of_list, IsShortList};
 ghost use Rattle.ua_variant.specs.View.{kind_of, element, items_in};
 
 use crate::flagged::bit;
+use crate::short::emit_short;
 use crate::variant::{Body, DataValue, Element, Variant};
 use ua_kind::Kind;
 use ua_value::{Array, NoMemory, Sink, Wire};
 
 /// The first byte of a Variant.
-fn head_of(kind: Kind, has_dimensions: bool, is_array: bool) -> u8
+#[inline(always)]
+pub(crate) fn head_of(kind: Kind, has_dimensions: bool, is_array: bool) -> u8
     ensures { result ≡ head_of (kind_of kind) has_dimensions is_array }
 {
     kind.number() + (bit(has_dimensions, 0x40) + bit(is_array, 0x80))
@@ -80,9 +83,31 @@ fn emit_items<S: Sink>(items: &[Element], out: &mut S) -> Result<(), NoMemory>
     ensures err { OnErr result (AppendsPart (S.contents out.old) (S.contents out.new) (canon_of_items (map element items.now))) }
 {
     for item in items {
-        emit_element(item, out)?;
+        emit_one(item, out)?;
     }
     Ok(())
+}
+
+/// Puts an element of a list: a number in line, any other by a call.
+#[cycle(emit)]
+#[inline(always)]
+fn emit_one<S: Sink>(item: &Element, out: &mut S) -> Result<(), NoMemory>
+    ensures ok { OnOk result (S.contents out.new ≡ S.contents out.old ++ element_canon (element item.now)) }
+    ensures err { OnErr result (AppendsPart (S.contents out.old) (S.contents out.new) (element_canon (element item.now))) }
+{
+    match item {
+        Element::SByte(number) => number.emit(out),
+        Element::Byte(number) => number.emit(out),
+        Element::Int16(number) => number.emit(out),
+        Element::UInt16(number) => number.emit(out),
+        Element::Int32(number) => number.emit(out),
+        Element::UInt32(number) => number.emit(out),
+        Element::Int64(number) => number.emit(out),
+        Element::UInt64(number) => number.emit(out),
+        Element::Float(number) => number.emit(out),
+        Element::Double(number) => number.emit(out),
+        _ => emit_element(item, out),
+    }
 }
 
 #[cycle(emit)]
@@ -124,6 +149,9 @@ pub(crate) fn emit_data<S: Sink>(value: &DataValue, out: &mut S) -> Result<(), N
     ensures ok { OnOk result (S.contents out.new ≡ S.contents out.old ++ data_canon value.now) }
     ensures err { OnErr result (AppendsPart (S.contents out.old) (S.contents out.new) (data_canon value.now)) }
 {
+    if emit_short(value, out) {
+        return Ok(());
+    }
     let mask = value.stamps.mask();
     match &value.value {
         None => out.put(&[mask])?,
@@ -154,20 +182,41 @@ pub(crate) fn variant_len(value: &Variant) -> u64
     match &value.body {
         Body::Null => 1,
         Body::One(one) => 1 + element_len(one),
-        Body::Array(_, items, lengths) => 1 + list_len(&items.list) + shape_len(lengths),
+        Body::Array(kind, items, lengths) => 1 + list_len(*kind, &items.list) + shape_len(lengths),
     }
 }
 
-/// The length of a count and the elements.
+/// The bytes of each value of a kind, where a list of it is measured by its count; else 0.
+fn width(kind: Kind) -> u64
+    ensures { result ≡ width (kind_of kind) }
+{
+    match kind {
+        Kind::Boolean | Kind::SByte | Kind::Byte => 1,
+        Kind::Int16 | Kind::UInt16 => 2,
+        Kind::Int32 | Kind::UInt32 | Kind::Float | Kind::StatusCode => 4,
+        Kind::Int64 | Kind::UInt64 | Kind::Double | Kind::DateTime => 8,
+        _ => 0,
+    }
+}
+
+/// The length of a count and the elements, all of the kind. Those of as many bytes each are not looked at.
 #[cycle(len)]
-fn list_len(items: &Option<Vec<Element>>) -> u64
-    requires { IsShortList (items_in items.now) }
+fn list_len(kind: Kind, items: &Option<Vec<Element>>) -> u64
+    requires short { IsShortList (items_in items.now) }
+    requires same { IfSome (items_in items.now) (λ es. AllOf (kind_of kind) (items_of es)) }
     ensures length { result ≡ length (canon_of_list (items_in items.now)) }
     ensures bound { result ≤ 1152921504606846980 }
 {
     match items {
         None => 4,
-        Some(items) => 4 + items_len(items),
+        Some(items) => {
+            let width = width(kind);
+            if width == 0 {
+                4 + items_len(items)
+            } else {
+                4 + width * items.len() as u64
+            }
+        }
     }
 }
 

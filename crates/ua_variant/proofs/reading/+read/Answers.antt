@@ -3,7 +3,8 @@ use Rattle.std.proofs.lemmas.Result.{err_from_is_err_and}
 use Rattle.std.proofs.lemmas.List.{map_push}
 use Rattle.ua_value.specs.Format.{Fails}
 use Rattle.ua_value.specs.Array.{items_at}
-use Rattle.ua_variant.specs.Kinds.{kind_number}
+use Rattle.ua_variant.specs.Kinds.{kind_number, data_kind}
+use Rattle.ua_variant.specs.declared.variant.Element.TheVariants as elements
 use Rattle.ua_variant.specs.Values.{Variant, with_value}
 use Rattle.ua_variant.specs.Reading.{behind_mask, within, elements_within}
 use Rattle.ua_variant.specs.View.{kind_of, element, body_of}
@@ -58,6 +59,28 @@ each_within-loop-preserved t c =
 pub each_within-returns-clause-gives : goal.each_within-returns-clause-gives
 each_within-returns-clause-gives t c =
     let g = elements_within c.args.allowance (kind_of c.args.kind) in
+    is_done g (map element c.loop.items.items) c.args.count c.loop.counter c.loop.rest.now (items_at g c.args.count c.args.input.now) (omega (arith, c.loop-test.false)) c.loop.invariant.so_far
+
+pub each_data-returns-in_err-item-clause-gives : goal.each_data-returns-in_err-item-clause-gives
+each_data-returns-in_err-item-clause-gives t c =
+    let g = elements_within c.args.allowance data_kind in
+    let p = err_from_is_err_and c.from_residual-in_err-item.result c.from_residual-in_err-item.ensures.1 in
+    rw (p.1, p.2) (ends g c.in_err-item.field-0.0 (map element c.loop.items.items) c.args.count c.loop.counter c.loop.rest.now (items_at g c.args.count c.args.input.now) c.loop-test.true c.in_err-item.ensures.gives c.loop.invariant.so_far)
+
+pub each_data-loop-preserved : goal.each_data-loop-preserved
+each_data-loop-preserved t c =
+    let g = elements_within c.args.allowance data_kind in
+    let e = elements.DataValue c.in_ok-item.item in
+    let items : map element c.push_reserved.new.self.items ≡ map element c.loop.items.items ++ element e ∷ [] = rw (c.push_reserved.ensures.items, c.reserve.ensures.items) (map_push element c.loop.items.items e) in
+    record {
+      within = omega (arith, c.loop.invariant.within, c.in_ok-item.ensures.shorter);
+      so_far = rw items (goes_on g (map element c.loop.items.items) c.args.count c.loop.counter c.loop.rest.now (element e) c.in_ok-item.after.now (items_at g c.args.count c.args.input.now) c.loop-test.true c.in_ok-item.ensures.gives c.loop.invariant.so_far);
+      counted = search rules;
+    }
+
+pub each_data-returns-clause-gives : goal.each_data-returns-clause-gives
+each_data-returns-clause-gives t c =
+    let g = elements_within c.args.allowance data_kind in
     is_done g (map element c.loop.items.items) c.args.count c.loop.counter c.loop.rest.now (items_at g c.args.count c.args.input.now) (omega (arith, c.loop-test.false)) c.loop.invariant.so_far
 
 pub variant_within-returns-then-allowance-eq0-clause-gives : goal.variant_within-returns-then-allowance-eq0-clause-gives

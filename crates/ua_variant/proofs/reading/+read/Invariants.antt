@@ -1,5 +1,6 @@
 use Rattle.std.proofs.Common.{◌≡◌, ◌≤◌, ◌+◌, ◌-◌, ◌*◌, length, map}
 use Rattle.ua_value.specs.Array.{items_at}
+use Rattle.ua_variant.specs.Kinds.{data_kind}
 use Rattle.ua_variant.specs.Reading.{elements_within}
 use Rattle.ua_variant.specs.View.{kind_of, element}
 use Rattle.ua_value.proofs.Items.{with_front}
@@ -9,34 +10,49 @@ abbrev pub decreases-variant_within : goal.decreases-variant_within
 decreases-variant_within l = 8 * l.allowance
 
 abbrev pub decreases-body_behind : goal.decreases-body_behind
-decreases-body_behind l = 8 * l.allowance + 6
+decreases-body_behind l = 8 * l.allowance + 7
 
 abbrev pub decreases-single_within : goal.decreases-single_within
-decreases-single_within l = 8 * l.allowance + 5
+decreases-single_within l = 8 * l.allowance + 6
 
 abbrev pub decreases-array_within : goal.decreases-array_within
-decreases-array_within l = 8 * l.allowance + 5
+decreases-array_within l = 8 * l.allowance + 6
 
 abbrev pub decreases-list_within : goal.decreases-list_within
-decreases-list_within l = 8 * l.allowance + 4
+decreases-list_within l = 8 * l.allowance + 5
 
 abbrev pub decreases-each_within : goal.decreases-each_within
-decreases-each_within l = 8 * l.allowance + 3
+decreases-each_within l = 8 * l.allowance + 4
 
 abbrev pub decreases-element_within : goal.decreases-element_within
-decreases-element_within l = 8 * l.allowance + 2
+decreases-element_within l = 8 * l.allowance + 3
 
 abbrev pub decreases-variant_element : goal.decreases-variant_element
-decreases-variant_element l = 8 * l.allowance + 1
+decreases-variant_element l = 8 * l.allowance + 2
 
 abbrev pub decreases-data_element : goal.decreases-data_element
-decreases-data_element l = 8 * l.allowance + 1
+decreases-data_element l = 8 * l.allowance + 2
 
 abbrev pub decreases-data_within : goal.decreases-data_within
 decreases-data_within l = 8 * l.allowance
 
 abbrev pub decreases-valued_data : goal.decreases-valued_data
 decreases-valued_data l = 8 * l.allowance + 6
+
+abbrev pub decreases-boxed_within : goal.decreases-boxed_within
+decreases-boxed_within l = 8 * l.allowance + 1
+
+abbrev pub decreases-each_data : goal.decreases-each_data
+decreases-each_data l = 8 * l.allowance + 2
+
+abbrev pub invariant-each_data-loop : goal.invariant-each_data-loop
+invariant-each_data-loop l =
+    let g = elements_within l.allowance data_kind in
+    record {
+      within : length l.rest ≤ length l.input;
+      so_far : with_front (map element l.items.items) (items_at g (l.count - l.counter) l.rest) ≡ items_at g l.count l.input;
+      counted : length l.items.items ≡ l.counter;
+    }
 
 abbrev pub invariant-each_within-loop : goal.invariant-each_within-loop
 invariant-each_within-loop l =

@@ -1,4 +1,4 @@
-use Rattle.std.proofs.Common.{◌∙◌, ◌++◌, List, ℕ, true, ap, sym, arith, rules}
+use Rattle.std.proofs.Common.{◌∙◌, ◌++◌, List, ℕ, ap, sym, arith, rules}
 use Rattle.std.specs.List.{flat_map}
 use Rattle.std.proofs.lemmas.List.{take_all}
 use Rattle.std.proofs.lemmas.Result.{err_from_is_err_and}
@@ -7,16 +7,16 @@ use Rattle.ua_value.proofs.Items.{appends_part}
 use Rattle.ua_variant.proofs.Arrays.{this_within, spelled, canon_flat, short, array_depth, cut_in_list, cut_in_shape, all_put}
 use Rattle.ua_variant.proofs.writing.+emit.Goals as goal
 
-pub emit_items-emit_element-requires : goal.emit_items-emit_element-requires
-emit_items-emit_element-requires g t c κs within =
+pub emit_items-emit_one-requires : goal.emit_items-emit_one-requires
+emit_items-emit_one-requires g t c κs within =
     let below = this_within c.args.items.now c.loop-item.item-index c.item-item.result c.loop-item-test.true c.item-item.is in
     (omega (arith, below, c.decreases), search rules)
 
-pub emit_items-returns-in_err-emit_element-clause-err : goal.emit_items-returns-in_err-emit_element-clause-err
-emit_items-returns-in_err-emit_element-clause-err g t c =
+pub emit_items-returns-in_err-emit_one-clause-err : goal.emit_items-returns-in_err-emit_one-clause-err
+emit_items-returns-in_err-emit_one-clause-err g t c =
     let p = err_from_is_err_and c.from_residual.result c.from_residual.ensures.1 in
-    rw p.1 (rw (canon_flat c.args.items.now) (appends_part spelled c.args.items.now c.loop-item.item-index c.item-item.result (g.S.Sink.contents c.args.out.now) (g.S.Sink.contents c.loop-item.out) (g.S.Sink.contents c.emit_element.new.out)
-    c.loop-item-test.true c.item-item.is c.loop-item.invariant c.in_err-emit_element.ensures.err))
+    rw p.1 (rw (canon_flat c.args.items.now) (appends_part spelled c.args.items.now c.loop-item.item-index c.item-item.result (g.S.Sink.contents c.args.out.now) (g.S.Sink.contents c.loop-item.out) (g.S.Sink.contents c.emit_one.new.out)
+    c.loop-item-test.true c.item-item.is c.loop-item.invariant c.in_err-emit_one.ensures.err))
 
 pub emit_items-returns-clause-ok : goal.emit_items-returns-clause-ok
 emit_items-returns-clause-ok g t c =

@@ -9,10 +9,13 @@ abbrev pub decreases-emit_variant : goal.decreases-emit_variant
 decreases-emit_variant g l = 8 * depth l.value.now + 1
 
 abbrev pub decreases-emit_items : goal.decreases-emit_items
-decreases-emit_items g l = 8 * items_depth (items_of (map element l.items.now)) + 3
+decreases-emit_items g l = 8 * items_depth (items_of (map element l.items.now)) + 4
 
 abbrev pub decreases-emit_list : goal.decreases-emit_list
-decreases-emit_list g l = 8 * list_depth (items_in l.items.now) + 4
+decreases-emit_list g l = 8 * list_depth (items_in l.items.now) + 5
+
+abbrev pub decreases-emit_one : goal.decreases-emit_one
+decreases-emit_one g l = 8 * element_depth (element l.item.now) + 3
 
 abbrev pub decreases-emit_element : goal.decreases-emit_element
 decreases-emit_element g l = 8 * element_depth (element l.item.now) + 2
