@@ -7,7 +7,7 @@ ghost use Rattle.ua_link.specs.Reports.{Served, cuts_with};
 
 use crate::clock::Clock;
 use crate::link::Link;
-use crate::turn::pump;
+use crate::turn::{MOST_READ, turn_in};
 use std::alloc::Global;
 use ua_conn::{End, Server};
 use ua_disco::Settings;
@@ -62,12 +62,14 @@ pub fn serve_connection<L: Link, C: Clock>(
         let end = End::NoMemory;
         return Report { end, cuts, written };
     };
+    // The room of all reads, which is zeros at the start of each turn.
+    let mut room = [0u8; MOST_READ];
     'turns: for _ in 0..turns {
         if cuts.reserve(1).is_err() {
             let end = End::NoMemory;
             return Report { end, cuts, written };
         }
-        let turn = pump(alloc, &mut server, link, clock);
+        let turn = turn_in(alloc, &mut server, link, clock, &mut room);
         written += turn.written as u128;
         add(&mut cuts, turn.cut);
         if let Some(end) = turn.end {

@@ -97,10 +97,30 @@ pub fn pump<L: Link, C: Clock>(
         let after : Seen = record { input = L.input link.new; output = L.output link.new; faults = L.fault_count link.new } in
         Turns server.old server.new before after result }
 {
-    let mut piece = [0u8; MOST_READ];
-    let Ok(n) = link.recv(&mut piece) else {
+    let mut room = [0u8; MOST_READ];
+    turn_in(alloc, server, link, clock, &mut room)
+}
+
+/// The same, which reads into room that its caller keeps. It is zeros wherever the link wrote no more than it said, and
+/// what came of it is zeros again when the turn is over.
+pub(crate) fn turn_in<L: Link, C: Clock>(
+    alloc: Global,
+    server: &mut Server,
+    link: &mut L,
+    clock: &mut C,
+    room: &mut [u8; MOST_READ],
+) -> Turn
+    requires going { server.old.failed ≡ false }
+    requires countable { L.fault_count link.old < 2 ^ 64 - 1 }
+    ensures { let before : Seen = record { input = L.input link.old; output = L.output link.old; faults = L.fault_count link.old } in
+        let after : Seen = record { input = L.input link.new; output = L.output link.new; faults = L.fault_count link.new } in
+        Turns server.old server.new before after result }
+{
+    let Ok(n) = link.recv(room) else {
         return Turn::ended(alloc, None, End::LinkFailed);
     };
     let now = clock.now();
-    answer(alloc, server, link, now, &piece[..n])
+    let turn = answer(alloc, server, link, now, &room[..n]);
+    room[..n].fill(0);
+    turn
 }

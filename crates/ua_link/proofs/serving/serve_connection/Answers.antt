@@ -20,16 +20,16 @@ turns-preserved g c =
     let site : Site = record { settings = c.args.settings.now; channel = c.args.id } in
     let before : Seen = record { input = g.L.Link.input c.args.link.now; output = g.L.Link.output c.args.link.now; faults = g.L.Link.fault_count c.args.link.now } in
     let mid : Seen = record { input = g.L.Link.input c.turns.link; output = g.L.Link.output c.turns.link; faults = g.L.Link.fault_count c.turns.link } in
-    let after : Seen = record { input = g.L.Link.input c.pump-turn.new.link; output = g.L.Link.output c.pump-turn.new.link; faults = g.L.Link.fault_count c.pump-turn.new.link } in
-    let turn = c.pump-turn.result in
+    let after : Seen = record { input = g.L.Link.input c.turn_in-turn.new.link; output = g.L.Link.output c.turn_in-turn.new.link; faults = g.L.Link.fault_count c.turn_in-turn.new.link } in
+    let turn = c.turn_in-turn.result in
     let old = c.turns.cuts.items in
     let cuts = c.add.ensures ∙ ap (cuts_with turn.cut) c.reserve.ensures.items in
     let n = c.turns.written in
     record {
-      entries = ap length cuts ∙ cut_counted c.turns.server c.pump-turn.new.server old mid after turn c.pump-turn.ensures c.in_default-end.is ∙ ap (λ k. k + 1) c.turns.invariant.entries;
+      entries = ap length cuts ∙ cut_counted c.turns.server c.turn_in-turn.new.server old mid after turn c.turn_in-turn.ensures c.in_default-end.is ∙ ap (λ k. k + 1) c.turns.invariant.entries;
       bound = omega (arith, c.turns.invariant.bound);
-      serving = subst (λ cs. Serving site c.pump-turn.new.server cs (n + turn.written) before after) (sym cuts)
-          (turn_goes_on site c.turns.server c.pump-turn.new.server old n before mid after turn c.turns.invariant.serving c.pump-turn.ensures c.in_default-end.is);
+      serving = subst (λ cs. Serving site c.turn_in-turn.new.server cs (n + turn.written) before after) (sym cuts)
+          (turn_goes_on site c.turns.server c.turn_in-turn.new.server old n before mid after turn c.turns.invariant.serving c.turn_in-turn.ensures c.in_default-end.is);
     }
 
 pub returns-in-Some : goal.returns-in-Some
@@ -37,10 +37,10 @@ returns-in-Some g c =
     let site : Site = record { settings = c.args.settings.now; channel = c.args.id } in
     let before : Seen = record { input = g.L.Link.input c.args.link.now; output = g.L.Link.output c.args.link.now; faults = g.L.Link.fault_count c.args.link.now } in
     let mid : Seen = record { input = g.L.Link.input c.turns.link; output = g.L.Link.output c.turns.link; faults = g.L.Link.fault_count c.turns.link } in
-    let after : Seen = record { input = g.L.Link.input c.pump-turn.new.link; output = g.L.Link.output c.pump-turn.new.link; faults = g.L.Link.fault_count c.pump-turn.new.link } in
-    let turn = c.pump-turn.result in
+    let after : Seen = record { input = g.L.Link.input c.turn_in-turn.new.link; output = g.L.Link.output c.turn_in-turn.new.link; faults = g.L.Link.fault_count c.turn_in-turn.new.link } in
+    let turn = c.turn_in-turn.result in
     let old = c.turns.cuts.items in
     let cuts = c.add.ensures ∙ ap (cuts_with turn.cut) c.reserve.ensures.items in
     let n = c.turns.written in
     subst (λ cs. Served site c.args.turns before after c.in-Some.end cs (n + turn.written)) (sym cuts)
-    (turn_ends site c.turns.server c.pump-turn.new.server old n c.args.turns before mid after turn c.in-Some.end c.turns.invariant.serving c.pump-turn.ensures c.in-Some.is)
+    (turn_ends site c.turns.server c.turn_in-turn.new.server old n c.args.turns before mid after turn c.in-Some.end c.turns.invariant.serving c.turn_in-turn.ensures c.in-Some.is)
