@@ -53,7 +53,20 @@ fn put_number(item: &Element, out: &mut Short) -> bool
     }
 }
 
-/// The spelling of a DataValue whose value is a single number or truth value.
+/// The value is a single number or truth value, so that `emit_short` is worth a call. No result rests on it: it only chooses
+/// between two ways that put the same.
+#[inline(always)]
+pub(crate) fn is_short(value: &DataValue) -> bool {
+    match &value.value {
+        Some(inner) => match &inner.body {
+            Body::One(one) => one.kind().number() <= LAST_NUMBER,
+            _ => false,
+        },
+        None => false,
+    }
+}
+
+/// The spelling of a DataValue whose value is a single number or truth value, and of no other one.
 #[inline(always)]
 fn spelled(value: &DataValue) -> Option<Short>
     ensures { IfSome result (λ s. s.bytes.items ≡ data_canon value.now) }
@@ -64,13 +77,10 @@ fn spelled(value: &DataValue) -> Option<Short>
     let Body::One(one) = &inner.body else {
         return None;
     };
-    let kind = one.kind();
-    if kind.number() > LAST_NUMBER {
-        return None;
-    }
     let mut short = Short {
         bytes: ArrayVec::new(),
     };
+    let kind = one.kind();
     let heads = [1 + value.stamps.mask(), head_of(kind, false, false)];
     if short.put(&heads).is_err() || !put_number(one, &mut short) {
         return None;

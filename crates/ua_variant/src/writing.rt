@@ -9,7 +9,7 @@ ghost use Rattle.ua_variant.specs.Lists.{canon_of_items, canon_of_list, IsShortL
 ghost use Rattle.ua_variant.specs.View.{kind_of, element, items_in};
 
 use crate::flagged::bit;
-use crate::short::emit_short;
+use crate::short::{emit_short, is_short};
 use crate::variant::{Body, DataValue, Element, Variant};
 use ua_kind::Kind;
 use ua_value::{Array, NoMemory, Sink, Wire};
@@ -149,7 +149,7 @@ pub(crate) fn emit_data<S: Sink>(value: &DataValue, out: &mut S) -> Result<(), N
     ensures ok { OnOk result (S.contents out.new ≡ S.contents out.old ++ data_canon value.now) }
     ensures err { OnErr result (AppendsPart (S.contents out.old) (S.contents out.new) (data_canon value.now)) }
 {
-    if emit_short(value, out) {
+    if is_short(value) && emit_short(value, out) {
         return Ok(());
     }
     let mask = value.stamps.mask();
