@@ -1,6 +1,7 @@
 pub mod Arrays
 pub mod DiagnosticSteps
 pub mod ExtensionForms
+pub mod Levels
 pub mod Made
 pub mod NumberSteps
 pub mod PlainSteps
