@@ -20,5 +20,5 @@ pub use client::{Answer, AnswerResult, AskFault, Client, ClientConfig, ClientFau
 pub use conversation::converse;
 pub use outcome::{End, Outcome};
 pub use schedule::Step;
-pub use server::{Fed, FeedFault, Server, answer_all};
+pub use server::{Fed, FeedFault, Server, answer_all, reply_all};
 pub use story::{Setup, Story};

@@ -19,7 +19,7 @@ use crate::moment::moment_of;
 use crate::outcome::End;
 use crate::server::connection::Connection;
 use crate::server::hearing::hear;
-pub use conversation::answer_all;
+pub use conversation::{answer_all, reply_all};
 use std::alloc::{AllocError, Global};
 use std::marker::Model;
 use ua_disco::Settings;

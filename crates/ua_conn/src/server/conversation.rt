@@ -60,6 +60,47 @@ fn answer_pieces(
     Ok(server.end_of_input())
 }
 
+/// Answers one more piece, and lets its requests go. The result is the end that it brings, if any.
+fn reply_piece(
+    server: &mut Server,
+    now: i64,
+    piece: &[u8],
+    reply: &mut Vec<u8>,
+) -> Result<Option<End>, NoMemory>
+    ensures { IfOk result (λ end. (asked : List Asked)
+        × FeedsAll server.old (record { moment = counted now; bytes = piece.now }) reply.old.items reply.new.items asked end server.new) }
+{
+    match server.feed(now, piece, reply) {
+        Ok(fed) => {
+            let end = fed.end;
+            let_go(fed);
+            Ok(end)
+        }
+        // No piece follows an end, so the only fault is want of memory.
+        Err(_) => Err(AllocError),
+    }
+}
+
+/// Answers the pieces, up to the first that brings an end, and keeps no request of them. The result is how the
+/// connection ended.
+fn reply_pieces(
+    server: &mut Server,
+    pieces: &[(i64, &[u8])],
+    reply: &mut Vec<u8>,
+) -> Result<End, NoMemory>
+    ensures reply { IfOk result (λ _. (site : Site) → Answering site [] reply.old.items [] server.old →
+        reply.new.items ≡ reply_bytes site (timed (pieces_of pieces.now))) }
+    ensures end { IfOk result (λ end. (site : Site) → Answering site [] reply.old.items [] server.old →
+        end ≡ end_of site (timed (pieces_of pieces.now))) }
+{
+    'pieces: for &(now, piece) in pieces {
+        if let Some(end) = reply_piece(server, now, piece, reply)? {
+            return Ok(end);
+        }
+    }
+    Ok(server.end_of_input())
+}
+
 /// Answers a whole input, which came in these pieces, each with its moment: ticks of 100 ns since 1601-01-01 UTC. The
 /// id of the channel is not 0. OPC 10000-6, 6.7 and 7.1.
 ///
@@ -93,6 +134,38 @@ pub fn answer_all(
         Ok(end) => Ok(Outcome { reply, handed, end }),
         Err(e) => {
             let_go((reply, handed));
+            Err(e)
+        }
+    }
+}
+
+/// The reply and the end of [`answer_all`], for callers that do not look at the requests: those of a piece are let go
+/// of with it, so that they are not all held at once. The pieces, their moments and the id of the channel are those of
+/// `answer_all`. OPC 10000-6, 6.7 and 7.1.
+///
+/// # Errors
+///
+/// `NoMemory` where a growth was refused; nothing of the reply is given then.
+pub fn reply_all(
+    alloc: Global,
+    settings: &Settings,
+    channel_id: u32,
+    pieces: &[(i64, &[u8])],
+) -> Result<(Vec<u8>, End), NoMemory>
+    requires { 0 < channel_id }
+    ensures reply { IfOk result (λ replied. let site : Site = record { settings = settings.now; channel = channel_id } in
+        replied.0.items ≡ reply_bytes site (timed (pieces_of pieces.now))) }
+    ensures end { IfOk result (λ replied. let site : Site = record { settings = settings.now; channel = channel_id } in
+        replied.1 ≡ end_of site (timed (pieces_of pieces.now))) }
+{
+    let mut server = Server::new(alloc, settings, channel_id)?;
+    let mut reply = Vec::new(alloc);
+    let replied = reply_pieces(&mut server, pieces, &mut reply);
+    let_go(server);
+    match replied {
+        Ok(end) => Ok((reply, end)),
+        Err(e) => {
+            let_go(reply);
             Err(e)
         }
     }
