@@ -1,6 +1,6 @@
 //! Bytes as digits.
 
-ghost use Rattle.std.specs.Prelude.{◌≡◌, ◌<◌, ◌++◌, length, slice_index, IfOk, OnOk};
+ghost use Rattle.std.specs.Prelude.{◌≡◌, ◌<◌, ◌≤◌, ◌+◌, ◌*◌, ◌++◌, length, slice_index, vec_len, vec_capacity, IfOk, IsOk, OnOk, OnErr};
 ghost use Rattle.hex.specs.Hex.{encode_lower, lower_digits};
 
 use std::alloc::{AllocError, Global};
@@ -32,21 +32,22 @@ fn digits_of(block: &[u8]) -> [u8; 64]
     digits
 }
 
-/// Appends the digits of the bytes, block by block and then byte by byte.
-fn put_digits(bytes: &[u8], text: &mut Vec<u8>) -> Result<(), AllocError>
-    ensures { OnOk result (text.new.items ≡ text.old.items ++ encode_lower bytes.now) }
+/// Appends the digits of the bytes, block by block and then byte by byte, where there is room for all of them.
+fn put_digits(bytes: &[u8], text: &mut Vec<u8>)
+    requires { vec_len text.old + 2 * length bytes.now ≤ vec_capacity text.old }
+    ensures items { text.new.items ≡ text.old.items ++ encode_lower bytes.now }
+    ensures capacity { vec_capacity text.old ≤ vec_capacity text.new }
 {
     let mut rest = bytes;
     'blocks: while rest.len() >= BLOCK {
         let (block, after) = rest.split_at(BLOCK);
-        text.extend_from_slice(&digits_of(block))?;
+        let _ = text.extend_from_slice(&digits_of(block));
         rest = after;
     }
     'bytes: for byte in rest {
         let byte = *byte;
-        text.extend_from_slice(&[digit(byte / 16), digit(byte % 16)])?;
+        let _ = text.extend_from_slice(&[digit(byte / 16), digit(byte % 16)]);
     }
-    Ok(())
 }
 
 /// The bytes as digits in lower case, two for each, with room for so many bytes more behind them.
@@ -64,8 +65,26 @@ pub fn encode(alloc: Global, bytes: &[u8], more: usize) -> Result<Vec<u8>, Alloc
         return Err(AllocError);
     };
     let mut text = Vec::with_capacity(alloc, room)?;
-    match put_digits(bytes, &mut text) {
-        Ok(()) => Ok(text),
-        Err(e) => Err(e),
-    }
+    put_digits(bytes, &mut text);
+    Ok(text)
+}
+
+/// Appends the bytes as digits in lower case, two for each. Where the text has room for them it takes no memory, and
+/// there is no error. Its room never shrinks.
+///
+/// # Errors
+///
+/// `AllocError` where the room was refused; then the text is what it was.
+pub fn encode_onto(text: &mut Vec<u8>, bytes: &[u8]) -> Result<(), AllocError>
+    ensures ok { OnOk result (text.new.items ≡ text.old.items ++ encode_lower bytes.now) }
+    ensures err { OnErr result (text.new.items ≡ text.old.items) }
+    ensures succeeds { vec_len text.old + 2 * length bytes.now ≤ vec_capacity text.old → IsOk result }
+    ensures capacity { vec_capacity text.old ≤ vec_capacity text.new }
+{
+    let Some(digits) = bytes.len().checked_mul(2) else {
+        return Err(AllocError);
+    };
+    text.reserve(digits)?;
+    put_digits(bytes, text);
+    Ok(())
 }

@@ -6,4 +6,4 @@ mod decoding;
 mod encoding;
 
 pub use decoding::decode;
-pub use encoding::encode;
+pub use encoding::{encode, encode_onto};
