@@ -9,6 +9,8 @@ mod answering;
 #[cfg(test)]
 mod asking;
 #[cfg(test)]
+mod blocks;
+#[cfg(test)]
 mod failures;
 #[cfg(test)]
 mod link_words;
