@@ -22,8 +22,7 @@ pub printed_block : (old mid new : Option (List ℕ)) (reply rest block after te
     → Appends mid new text → PrintedTo old mid reply rest → PrintedTo old new reply after
 printed_block old mid new reply rest block after text cut is put so =
     let digits : encode_lower so.0 ++ text ≡ encode_lower (so.0 ++ block) =
-    ap (λ (ds : List ℕ). encode_lower so.0 ++ ds) (is ∙ append-nil (encode_lower block)) ∙ sym (encode_append lower_digits so.0 block) in
-    (
+    ap (λ (ds : List ℕ). encode_lower so.0 ++ ds) (is ∙ append-nil (encode_lower block)) ∙ sym (encode_append lower_digits so.0 block) in (
       so.0 ++ block,
       subst (Appends old new) digits (Appends-trans old mid new (encode_lower so.0) text so.1 put),
       so.2 ∙ ap (λ (r : List ℕ). so.0 ++ r) cut ∙ sym (append_assoc so.0 block after),

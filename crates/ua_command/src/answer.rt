@@ -18,7 +18,7 @@ use std::alloc::{AllocError, Global};
 use std::fmt;
 use std::io::{Read, Write};
 use std::rt::Files;
-use ua_conn::{End, Outcome, answer_all};
+use ua_conn::{End, reply_all};
 use ua_disco::Settings;
 use ua_hex::encode_onto;
 use ua_value::NoMemory;
@@ -60,13 +60,17 @@ fn lent(alloc: Global, pieces: &[TimedPiece]) -> Result<Vec<(i64, &[u8])>, NoMem
     Ok(lent)
 }
 
-/// What the pieces are answered.
-fn answered(alloc: Global, settings: &Settings, pieces: &[TimedPiece]) -> Result<Outcome, NoMemory>
-    ensures reply { IfOk result (λ outcome. outcome.reply.items ≡ answered_bytes settings.now (stream_of (times pieces.now))) }
-    ensures end { IfOk result (λ outcome. outcome.end ≡ ending settings.now (stream_of (times pieces.now))) }
+/// What the pieces are answered, and how the connection ends.
+fn answered(
+    alloc: Global,
+    settings: &Settings,
+    pieces: &[TimedPiece],
+) -> Result<(Vec<u8>, End), NoMemory>
+    ensures reply { IfOk result (λ replied. replied.0.items ≡ answered_bytes settings.now (stream_of (times pieces.now))) }
+    ensures end { IfOk result (λ replied. replied.1 ≡ ending settings.now (stream_of (times pieces.now))) }
 {
     let lent = lent(alloc, pieces)?;
-    answer_all(alloc, settings, CHANNEL, lent.as_slice())
+    reply_all(alloc, settings, CHANNEL, lent.as_slice())
 }
 
 /// The end of the line of the reply, and the line of the end.
@@ -165,9 +169,9 @@ fn answer_input<I: Read, O: Write>(
     ensures quiet { IfErr result (λ stop. IsQuiet stop (O.contents output.old) (O.contents output.new)) }
 {
     let pieces = pieces_in(alloc, input)?;
-    let outcome = answered(alloc, settings, pieces.as_slice())?;
-    print_answer(alloc, outcome.reply.as_slice(), outcome.end, output)?;
-    Ok(status_of(outcome.end))
+    let (reply, end) = answered(alloc, settings, pieces.as_slice())?;
+    print_answer(alloc, reply.as_slice(), end, output)?;
+    Ok(status_of(end))
 }
 
 /// Answers the pieces that the input gives by the settings of the source, prints the reply and the end, and gives the

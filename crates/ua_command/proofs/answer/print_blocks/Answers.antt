@@ -10,7 +10,7 @@ blocks-2-init g c = record { printed = printed_none _ _; room = c.requires }
 pub blocks-2-preserved : goal.blocks-2-preserved
 blocks-2-preserved g c = record {
   printed = printed_block _ _ _ _ c.blocks-2.rest.now c.split_at.result.0.now c.split_at.result.1.now c.as_slice.result.now (cut_at 32768 _ _ _ c.split_at.ensures.front c.split_at.ensures.back)
-  (c.as_slice.ensures.value ∙ c.fill.ensures.items) c.in_ok-put_bytes.ensures.ok c.blocks-2.invariant.printed;
+      (c.as_slice.ensures.value ∙ c.fill.ensures.items) c.in_ok-put_bytes.ensures.ok c.blocks-2.invariant.printed;
   room = omega (arith, c.blocks-2.invariant.room, c.fill.ensures.capacity);
 }
 
