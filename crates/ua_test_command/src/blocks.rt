@@ -88,6 +88,15 @@ impl<'a> Write for Compared<'a> {
     }
 }
 
+/// The digits of so many blocks of 32 KiB.
+fn digits_of_blocks(blocks: u32) -> usize {
+    let mut digits = 0usize;
+    for _ in 0..blocks {
+        digits = digits.saturating_add(65_536);
+    }
+    digits
+}
+
 /// Whether the command prints the digits of this reply in so many writes, and stops where the write of a number fails.
 fn is_printed<R: Files + Net + Clock + AllocGlobal>(
     rt: &R,
@@ -107,10 +116,12 @@ fn is_printed<R: Files + Net + Clock + AllocGlobal>(
     let mut told = Page::new(4096);
     let words = ["answer", "wide.toml"];
     let status = run(rt, &words, &mut input, &mut printed, &mut told);
-    let whole = reply.len().saturating_mul(2).saturating_add(LAST.len());
     let comes = if writes == fails_at {
-        status == 3 && told.text() == b"file\n".as_slice() && printed.place < whole
+        status == 3
+            && told.text() == b"file\n".as_slice()
+            && printed.place == digits_of_blocks(writes.saturating_sub(1))
     } else {
+        let whole = reply.len().saturating_mul(2).saturating_add(LAST.len());
         status == 0 && told.text().is_empty() && printed.place == whole
     };
     comes && !printed.differs && printed.writes == writes
@@ -162,4 +173,17 @@ fn long_replies_are_printed_by_blocks(rt: HostRuntime) {
     assert!(rt; answers(&rt, 20, 3, 0));
     assert!(rt; answers(&rt, 20, 2, 2));
     assert!(rt; answers(&rt, 20, 3, 3));
+}
+
+/// Whether digits are appended to a text that has no room for them.
+fn appends_digits(alloc: Global) -> bool {
+    let mut text = Vec::new(alloc);
+    ua_hex::encode_onto(&mut text, &[0x00, 0x7f, 0xa5]).is_ok()
+        && ua_hex::encode_onto(&mut text, &[0xff]).is_ok()
+        && text.as_slice() == b"007fa5ff".as_slice()
+}
+
+#[test]
+fn digits_are_appended_where_there_is_no_room_yet(rt: HostRuntime) {
+    assert!(rt; appends_digits(rt.alloc()));
 }
