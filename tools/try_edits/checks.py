@@ -280,8 +280,10 @@ CALLS = re.compile(r"\b[a-z_]\w*\(|[?!\[]|\bfor\b")
 
 
 def control_of(crate, batch):
-    """A function that has no proof file and is not changed by the batch: the shortest that calls nothing, or else the shortest."""
+    """A function that has no proof file and is not changed by the batch: the shortest that calls nothing, or else the shortest of
+    a file that is not changed, since what calls a changed function is hidden by it, or else the shortest."""
     taken = {key_of(it) for place in batch for it in place.functions}
+    changed = {pair.file for place in batch for pair in place.pairs}
     found = []
     for path in sources(crate.folder):
         file = os.path.relpath(path, crate.folder)
@@ -291,8 +293,9 @@ def control_of(crate, batch):
             is_body = it.first < it.last and not re.search(r"\btests?\b", file)
             proofs = f"{crate.folder}/proofs/{'/'.join(module_of(file))}"
             if is_body and key_of(it) not in taken and not has_proofs(proofs, it.name):
-                found.append((bool(CALLS.search(body)), len(body), it))
-    return min(found, key=lambda it: (*it[:2], it[2].file, it[2].first))[2] if found else None
+                calls = bool(CALLS.search(body))
+                found.append((calls, calls and file in changed, len(body), it))
+    return min(found, key=lambda it: (*it[:3], it[3].file, it[3].first))[3] if found else None
 
 
 def has_proofs(folder, name):
