@@ -1,7 +1,6 @@
 pub mod Arrays
 pub mod DiagnosticSteps
 pub mod ExtensionForms
-pub mod Levels
 pub mod Made
 pub mod NumberSteps
 pub mod PlainSteps

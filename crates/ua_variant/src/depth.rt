@@ -1,20 +1,12 @@
 //! How deep values are nested, from the depths that are kept in those inside them.
 
-ghost use Rattle.std.specs.Prelude.{◌≡◌, ◌≤◌, ◌+◌, map, max, IfSome};
+ghost use Rattle.std.specs.Prelude.{◌≡◌, ◌≤◌, map, IfSome};
 ghost use Rattle.ua_variant.specs.Values.{depth, items_depth, list_depth, items_of, deepest};
 ghost use Rattle.ua_variant.specs.Spelling.{AreSound, IsVariant, IsDataValue};
 ghost use Rattle.ua_variant.specs.View.{element, items_in, body_of, data_with};
 
 use crate::stamps::Stamps;
 use crate::variant::{Body, DataValue, Element, Variant};
-
-/// The greater of two depths.
-#[inline(always)]
-pub(crate) fn deeper(one: u8, other: u8) -> u8
-    ensures { result ≡ max one other }
-{
-    if other > one { other } else { one }
-}
 
 /// The greatest depth of the elements.
 fn levels_of(items: &[Element]) -> u8
@@ -45,12 +37,23 @@ pub(crate) fn levels_in(items: &Option<Vec<Element>>) -> u8
 }
 
 impl Variant {
-    /// The Variant whose contents are given, and the depth of the deepest of them.
-    pub(crate) fn with_levels(body: Body, inside: u8) -> Variant
-        requires value { IsVariant (body_of body) }
-        requires inside { inside + 1 ≡ depth (body_of body) }
+    /// The Variant whose contents are given. Plain elements are not looked at.
+    #[tactic(auto, using(crate::proofs::Made::plain_depth))]
+    pub(crate) fn of(body: Body) -> Variant
+        requires { IsVariant (body_of body) }
         ensures { result ≡ body_of body }
     {
+        let inside = match &body {
+            Body::Null => 0,
+            Body::One(one) => one.depth(),
+            Body::Array(kind, items, _) => {
+                if kind.is_plain() {
+                    0
+                } else {
+                    levels_in(&items.list)
+                }
+            }
+        };
         Variant {
             levels: inside + 1,
             body,

@@ -1,6 +1,6 @@
 //! Reading variants and data values from the front of bytes, to a depth.
 
-ghost use Rattle.std.specs.Prelude.{◌≡◌, ◌≤◌, ◌<◌, ◌+◌, ◌^◌, length, map, true, false, Err, IfOk, IfSome};
+ghost use Rattle.std.specs.Prelude.{◌≡◌, ◌≤◌, ◌<◌, ◌^◌, length, map, true, false, Err, IfOk, IfSome};
 ghost use Rattle.ua_value.specs.Format.{Gives, input_limit};
 ghost use Rattle.ua_value.specs.Number.{unsigned};
 ghost use Rattle.ua_value.specs.Array.{items_at, CountsMore};
@@ -8,13 +8,12 @@ ghost use Rattle.ua_value.specs.Localized.{has};
 ghost use Rattle.std.specs.Int.{w32};
 ghost use Rattle.ua_value.specs.Sequence.{made};
 ghost use Rattle.ua_variant.specs.Kinds.{variant_kind, data_kind, info_kind, kind_number};
-ghost use Rattle.ua_variant.specs.Values.{deepest, count_of, data_value, depth, items_depth, items_of, list_depth, without};
+ghost use Rattle.ua_variant.specs.Values.{deepest, count_of, data_value, without};
 ghost use Rattle.ua_variant.specs.Chains.{list};
 ghost use Rattle.ua_variant.specs.Reading.{one_of, leaves, singles, arrays, behind_head, behind_mask, IsNumberAhead, within, data_within, elements_within, VariantCountsMore, DataCountsMore};
 ghost use Rattle.ua_variant.specs.Stamps.{stamps};
 ghost use Rattle.ua_variant.specs.View.{kind_of, element, items_in, body_of};
 
-use crate::depth::deeper;
 use crate::diagnostic::DiagnosticInfo;
 use crate::element::{LAST_NUMBER, leaf_front};
 use crate::leaf::Leaf;
@@ -58,8 +57,8 @@ pub(crate) fn variant_within(
             }
         }
     }
-    let (body, rest, inside) = body_behind(alloc, head, rest, allowance - 1)?;
-    Ok((Variant::with_levels(body, inside), rest))
+    let (body, rest) = body_behind(alloc, head, rest, allowance - 1)?;
+    Ok((Variant::of(body), rest))
 }
 
 /// A Variant of a single plain value, behind its first byte: a short way for what most are.
@@ -76,23 +75,22 @@ fn plain_variant(alloc: Global, kind: Kind, input: &[u8]) -> Result<(Variant, &[
     Ok((Variant { levels, body }, rest))
 }
 
-/// What follows the first byte of a Variant whose elements are at most so deep; last, how deep the deepest one is.
+/// What follows the first byte of a Variant whose elements are at most so deep.
 #[cycle(read)]
 fn body_behind(
     alloc: Global,
     head: u8,
     input: &[u8],
     allowance: u8,
-) -> Result<(Body, &[u8], u8), ReadFault>
+) -> Result<(Body, &[u8]), ReadFault>
     requires short { length input.now ≤ input_limit }
     requires allowed { allowance < deepest }
     ensures gives { Gives (λ x. (body_of x.0, x.1.now)) result ((behind_head (elements_within allowance) head).front input.now) }
     ensures shorter { IfOk result (λ x. length x.1.now ≤ length input.now) }
-    ensures levels { IfOk result (λ x. x.2 + 1 ≡ depth (body_of x.0)) }
     ensures counted { (has head 0x80 ≡ true) × CountsMore ((unsigned w32).grammar.front input.now) → result ≡ Err ReadFault.Refused }
 {
     if head == 0 {
-        return Ok((Body::Null, input, 0));
+        return Ok((Body::Null, input));
     }
     let Some(kind) = Kind::named(head & 0x3f) else {
         return Err(ReadFault::Refused);
@@ -107,29 +105,27 @@ fn body_behind(
     single_within(alloc, kind, input, allowance)
 }
 
-/// A single value, and how deep it is.
+/// A single value.
 #[cycle(read)]
 fn single_within(
     alloc: Global,
     kind: Kind,
     input: &[u8],
     allowance: u8,
-) -> Result<(Body, &[u8], u8), ReadFault>
+) -> Result<(Body, &[u8]), ReadFault>
     requires short { length input.now ≤ input_limit }
     requires allowed { allowance < deepest }
     ensures gives { Gives (λ x. (body_of x.0, x.1.now)) result ((singles (elements_within allowance) (kind_of kind)).front input.now) }
     ensures shorter { IfOk result (λ x. length x.1.now ≤ length input.now) }
-    ensures levels { IfOk result (λ x. x.2 + 1 ≡ depth (body_of x.0)) }
 {
     if kind.is_variant() {
         return Err(ReadFault::Refused);
     }
     let (one, rest) = element_within(alloc, kind, input, allowance)?;
-    let levels = one.depth();
-    Ok((Body::One(one), rest, levels))
+    Ok((Body::One(one), rest))
 }
 
-/// An array and its dimensions; last, how deep its deepest element is.
+/// An array and its dimensions.
 #[cycle(read)]
 fn array_within(
     alloc: Global,
@@ -137,18 +133,17 @@ fn array_within(
     flagged: bool,
     input: &[u8],
     allowance: u8,
-) -> Result<(Body, &[u8], u8), ReadFault>
+) -> Result<(Body, &[u8]), ReadFault>
     requires short { length input.now ≤ input_limit }
     requires allowed { allowance < deepest }
     ensures gives { Gives (λ x. (body_of x.0, x.1.now)) result ((arrays (elements_within allowance) (kind_of kind) flagged).front input.now) }
     ensures shorter { IfOk result (λ x. length x.1.now ≤ length input.now) }
-    ensures levels { IfOk result (λ x. x.2 + 1 ≡ depth (body_of x.0)) }
     ensures counted { CountsMore ((unsigned w32).grammar.front input.now) → result ≡ Err ReadFault.Refused }
 {
-    let (elements, rest, levels) = list_within(alloc, kind, input, allowance)?;
+    let (elements, rest) = list_within(alloc, kind, input, allowance)?;
     let count = count_in(&elements.list);
     let (lengths, rest) = shape_front(alloc, flagged, count, rest)?;
-    Ok((Body::Array(kind, elements, lengths), rest, levels))
+    Ok((Body::Array(kind, elements, lengths), rest))
 }
 
 /// How many elements there are; none where the array is null.
@@ -161,27 +156,26 @@ pub(crate) fn count_in(items: &Option<Vec<Element>>) -> usize
     }
 }
 
-/// A count and as many elements, or null; last, how deep the deepest one is.
+/// A count and as many elements, or null.
 #[cycle(read)]
 fn list_within(
     alloc: Global,
     kind: Kind,
     input: &[u8],
     allowance: u8,
-) -> Result<(Elements, &[u8], u8), ReadFault>
+) -> Result<(Elements, &[u8]), ReadFault>
     requires short { length input.now ≤ input_limit }
     requires allowed { allowance < deepest }
     ensures gives { Gives (λ x. (items_in x.0.list, x.1.now)) result ((list (elements_within allowance (kind_of kind))).front input.now) }
     ensures shorter { IfOk result (λ x. length x.1.now ≤ length input.now) }
     ensures counted { CountsMore ((unsigned w32).grammar.front input.now) → result ≡ Err ReadFault.Refused }
     ensures few { IfOk result (λ x. count_of (items_in x.0.list) < 2 ^ 31) }
-    ensures levels { IfOk result (λ x. x.2 ≡ list_depth (items_in x.0.list)) }
 {
     let Some((count, rest)) = front_u32(input) else {
         return Err(ReadFault::Refused);
     };
     if count == u32::MAX {
-        return Ok((Elements { list: None }, rest, 0));
+        return Ok((Elements { list: None }, rest));
     }
     if count > LONGEST {
         return Err(ReadFault::Refused);
@@ -189,9 +183,9 @@ fn list_within(
     if rest.len() < count as usize {
         return Err(ReadFault::Refused);
     }
-    let (items, rest, levels) = each_within(alloc, kind, count, rest, allowance)?;
+    let (items, rest) = each_within(alloc, kind, count, rest, allowance)?;
     let elements = Elements { list: Some(items) };
-    Ok((elements, rest, levels))
+    Ok((elements, rest))
 }
 
 /// For how many of so many elements that hold others, and are at most so deep, room is made at once.
@@ -204,8 +198,7 @@ fn room_for(count: u32, allowance: u8) -> usize
     room as usize
 }
 
-/// As many elements as the count says, one after another; last, how deep the deepest one is. It is found while each is at
-/// hand: a walk over the finished list would fetch each of them again.
+/// As many elements as the count says, one after another.
 #[cycle(read)]
 #[tactic(auto, using(crate::proofs::PlainSteps::plain_items))]
 fn each_within(
@@ -214,37 +207,32 @@ fn each_within(
     count: u32,
     input: &[u8],
     allowance: u8,
-) -> Result<(Vec<Element>, &[u8], u8), ReadFault>
+) -> Result<(Vec<Element>, &[u8]), ReadFault>
     requires short { length input.now ≤ input_limit }
     requires allowed { allowance < deepest }
     ensures gives { Gives (λ x. (map element x.0.items, x.1.now)) result (items_at (elements_within allowance (kind_of kind)) count input.now) }
     ensures shorter { IfOk result (λ x. length x.1.now ≤ length input.now) }
     ensures counted { IfOk result (λ x. length x.0.items ≡ count) }
-    ensures levels { IfOk result (λ x. x.2 ≡ items_depth (items_of (map element x.0.items))) }
 {
     if kind.is_plain() {
-        let (items, rest) = each_leaf(alloc, kind, count, input)?;
-        return Ok((items, rest, 0));
+        return each_leaf(alloc, kind, count, input);
     }
     if let Kind::DataValue = kind {
         return each_data(alloc, count, input, allowance);
     }
     let mut items = Vec::with_capacity(alloc, room_for(count, allowance))?;
     let mut rest = input;
-    let mut levels = 0;
     for _ in 0..count {
         // `push` could hand the element back, so it would copy it once more for each element.
         items.reserve(1)?;
         let (item, after) = element_within(alloc, kind, rest, allowance)?;
-        levels = deeper(levels, item.depth());
         items.push_reserved(item);
         rest = after;
     }
-    Ok((items, rest, levels))
+    Ok((items, rest))
 }
 
-/// As many DataValues as the count says, and how deep the deepest one is: a loop of their own, in which each goes from its
-/// reader into the list.
+/// As many DataValues as the count says: a loop of their own, in which each goes from its reader into the list.
 #[cycle(read)]
 #[inline(never)]
 fn each_data(
@@ -252,26 +240,23 @@ fn each_data(
     count: u32,
     input: &[u8],
     allowance: u8,
-) -> Result<(Vec<Element>, &[u8], u8), ReadFault>
+) -> Result<(Vec<Element>, &[u8]), ReadFault>
     requires short { length input.now ≤ input_limit }
     requires allowed { allowance < deepest }
     ensures gives { Gives (λ x. (map element x.0.items, x.1.now)) result (items_at (elements_within allowance data_kind) count input.now) }
     ensures shorter { IfOk result (λ x. length x.1.now ≤ length input.now) }
     ensures counted { IfOk result (λ x. length x.0.items ≡ count) }
-    ensures levels { IfOk result (λ x. x.2 ≡ items_depth (items_of (map element x.0.items))) }
 {
     let mut items = Vec::with_capacity(alloc, room_for(count, allowance))?;
     let mut rest = input;
-    let mut levels = 0;
     for _ in 0..count {
         // As above, `push` would copy the element once more.
         items.reserve(1)?;
         let (item, after) = boxed_within(alloc, rest, allowance)?;
-        levels = deeper(levels, item.depth());
         items.push_reserved(Element::DataValue(item));
         rest = after;
     }
-    Ok((items, rest, levels))
+    Ok((items, rest))
 }
 
 /// A value of the kind that is at most so deep.

@@ -5,12 +5,10 @@ use Rattle.ua_value.specs.Format.{Fails}
 use Rattle.ua_value.specs.Array.{items_at}
 use Rattle.ua_variant.specs.Kinds.{kind_number, data_kind}
 use Rattle.ua_variant.specs.declared.variant.Element.TheVariants as elements
-use Rattle.ua_variant.specs.Values.{Variant, with_value, data_depth}
+use Rattle.ua_variant.specs.Values.{Variant, with_value}
 use Rattle.ua_variant.specs.Reading.{behind_mask, within, elements_within}
-use Rattle.ua_variant.specs.Falls.{depth_of_array}
-use Rattle.ua_variant.specs.View.{kind_of, element, items_in, body_of}
+use Rattle.ua_variant.specs.View.{kind_of, element, body_of}
 use Rattle.ua_value.proofs.Items.{goes_on, ends, is_done}
-use Rattle.ua_variant.proofs.Levels.{depth_more, plain_levels}
 use Rattle.ua_variant.proofs.PlainVariants.{one_plain}
 use Rattle.ua_variant.proofs.Steps.{no_level, no_data_level, no_first, no_mask, one_level, one_data_level, is_variant, is_data_behind}
 use Rattle.ua_variant.proofs.reading.+read.Goals as goal
@@ -41,14 +39,6 @@ valued_data-of-requires t c =
     let found : (behind_mask (within c.args.allowance) c.args.mask).front c.args.input.now ≡ Some (with_value c.in_ok-value.value c.in-Ok.stamps, c.in-Ok.rest.now) = search rules in
     is_data_behind c.args.allowance c.args.mask c.args.input.now _ _ c.requires.allowed c.ranges.mask.fits (λ i. omega (arith, c.type_inv.input i)) c.requires.short found
 
-pub array_within-returns-clause-levels : goal.array_within-returns-clause-levels
-array_within-returns-clause-levels t c = omega (arith, c.in_ok-elements.ensures.levels, depth_of_array (kind_of c.args.kind) (items_in c.in_ok-elements.elements.list) c.in_ok-lengths.lengths)
-
-pub each_within-returns-then-is_plain-clause-levels : goal.each_within-returns-then-is_plain-clause-levels
-each_within-returns-then-is_plain-clause-levels t c =
-    let few : kind_number (kind_of c.args.kind) ≤ 22 = c.if-is_plain.ensures.0 refl in
-    sym (plain_levels (kind_of c.args.kind) c.args.count c.args.input.now (map element c.in_ok-items.items.items) c.in_ok-items.rest.now few c.in_ok-items.ensures.gives)
-
 pub each_within-returns-in_err-item-clause-gives : goal.each_within-returns-in_err-item-clause-gives
 each_within-returns-in_err-item-clause-gives t c =
     let g = elements_within c.args.allowance (kind_of c.args.kind) in
@@ -64,7 +54,6 @@ each_within-loop-preserved t c =
       within = omega (arith, c.loop.invariant.within, c.in_ok-item.ensures.shorter);
       so_far = rw items (goes_on g (map element c.loop.items.items) c.args.count c.loop.counter c.loop.rest.now (element e) c.in_ok-item.after.now (items_at g c.args.count c.args.input.now) c.loop-test.true c.in_ok-item.ensures.gives c.loop.invariant.so_far);
       counted = search rules;
-      levels = depth_more (map element c.loop.items.items) (element e) (map element c.push_reserved.new.self.items) c.loop.levels c.depth.result c.deeper-levels.result items c.loop.invariant.levels c.depth.ensures.depth c.deeper-levels.ensures;
     }
 
 pub each_within-returns-clause-gives : goal.each_within-returns-clause-gives
@@ -82,13 +71,11 @@ pub each_data-loop-preserved : goal.each_data-loop-preserved
 each_data-loop-preserved t c =
     let g = elements_within c.args.allowance data_kind in
     let e = elements.DataValue c.in_ok-item.item in
-    let deep : c.depth.result ≡ data_depth c.in_ok-item.item.value = search rules in
     let items : map element c.push_reserved.new.self.items ≡ map element c.loop.items.items ++ element e ∷ [] = rw (c.push_reserved.ensures.items, c.reserve.ensures.items) (map_push element c.loop.items.items e) in
     record {
       within = omega (arith, c.loop.invariant.within, c.in_ok-item.ensures.shorter);
       so_far = rw items (goes_on g (map element c.loop.items.items) c.args.count c.loop.counter c.loop.rest.now (element e) c.in_ok-item.after.now (items_at g c.args.count c.args.input.now) c.loop-test.true c.in_ok-item.ensures.gives c.loop.invariant.so_far);
       counted = search rules;
-      levels = depth_more (map element c.loop.items.items) (element e) (map element c.push_reserved.new.self.items) c.loop.levels c.depth.result c.deeper-levels.result items c.loop.invariant.levels deep c.deeper-levels.ensures;
     }
 
 pub each_data-returns-clause-gives : goal.each_data-returns-clause-gives
@@ -113,12 +100,12 @@ variant_within-returns-then-is_plain-clause-gives t c =
     let few : kind_number (kind_of c.in-Some.kind) ≤ 22 = c.if-is_plain.ensures.0 refl in
     rw (one_plain c.args.allowance c.args.input.now (kind_of c.in-Some.kind) (omega arith) (omega (arith, c.in-len1-up.len_at_least)) c.if-head-eq0.true c.if-head-eq0-2.true (sym c.in-Some.ensures) few) c.plain_variant.ensures.gives
 
-pub variant_within-with_levels-requires : goal.variant_within-with_levels-requires
-variant_within-with_levels-requires t c =
+pub variant_within-of-requires : goal.variant_within-of-requires
+variant_within-of-requires t c =
     let step = one_level c.args.allowance c.args.input.now (omega arith) (omega (arith, c.in-len1-up.len_at_least)) in
-    record { value = is_variant c.args.allowance c.args.input.now (body_of c.in_ok-body.body) c.in_ok-body.rest.now c.requires.allowed (λ i. omega (arith, c.type_inv.input i)) c.requires.short (step ∙ c.in_ok-body.ensures.gives); inside = c.in_ok-body.ensures.levels }
+    is_variant c.args.allowance c.args.input.now (body_of c.in_ok-body.body) c.in_ok-body.rest.now c.requires.allowed (λ i. omega (arith, c.type_inv.input i)) c.requires.short (step ∙ c.in_ok-body.ensures.gives)
 
 pub variant_within-returns-clause-gives : goal.variant_within-returns-clause-gives
 variant_within-returns-clause-gives t c =
     let step = one_level c.args.allowance c.args.input.now (omega arith) (omega (arith, c.in-len1-up.len_at_least)) in
-    step ∙ c.in_ok-body.ensures.gives ∙ ap (λ (v : Variant). let r : Option (Variant × List ℕ) = Some (v, c.in_ok-body.rest.now) in r) (sym c.with_levels.ensures)
+    step ∙ c.in_ok-body.ensures.gives ∙ ap (λ (v : Variant). let r : Option (Variant × List ℕ) = Some (v, c.in_ok-body.rest.now) in r) (sym c.of.ensures)

@@ -1,7 +1,6 @@
 use Rattle.std.proofs.Common.{◌≡◌, ◌≤◌, ◌+◌, ◌-◌, ◌*◌, length, map}
 use Rattle.ua_value.specs.Array.{items_at}
 use Rattle.ua_variant.specs.Kinds.{data_kind}
-use Rattle.ua_variant.specs.Values.{items_depth, items_of}
 use Rattle.ua_variant.specs.Reading.{elements_within}
 use Rattle.ua_variant.specs.View.{kind_of, element}
 use Rattle.ua_value.proofs.Items.{with_front}
@@ -53,7 +52,6 @@ invariant-each_data-loop l =
       within : length l.rest ≤ length l.input;
       so_far : with_front (map element l.items.items) (items_at g (l.count - l.counter) l.rest) ≡ items_at g l.count l.input;
       counted : length l.items.items ≡ l.counter;
-      levels : l.levels ≡ items_depth (items_of (map element l.items.items));
     }
 
 abbrev pub invariant-each_within-loop : goal.invariant-each_within-loop
@@ -63,5 +61,4 @@ invariant-each_within-loop l =
       within : length l.rest ≤ length l.input;
       so_far : with_front (map element l.items.items) (items_at g (l.count - l.counter) l.rest) ≡ items_at g l.count l.input;
       counted : length l.items.items ≡ l.counter;
-      levels : l.levels ≡ items_depth (items_of (map element l.items.items));
     }
