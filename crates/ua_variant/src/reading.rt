@@ -188,13 +188,24 @@ fn list_within(
     Ok((elements, rest))
 }
 
+/// The list stands in a Variant that is read by itself, and in no other value. No result rests on it.
+#[inline(always)]
+fn is_outermost(allowance: u8) -> bool
+    requires { allowance < deepest }
+{
+    allowance + 1 == DEEPEST
+}
+
 /// For how many of so many elements that hold others, and are at most so deep, room is made at once.
 fn room_for(count: u32, allowance: u8) -> usize
     requires { allowance < deepest }
     ensures { result ≤ count }
 {
-    let is_outermost = allowance + 1 == DEEPEST;
-    let room = if is_outermost { count } else { count.min(FEW) };
+    let room = if is_outermost(allowance) {
+        count
+    } else {
+        count.min(FEW)
+    };
     room as usize
 }
 
@@ -218,7 +229,9 @@ fn each_within(
         return each_leaf(alloc, kind, count, input);
     }
     if let Kind::DataValue = kind {
-        return each_data(alloc, count, input, allowance);
+        if is_outermost(allowance) {
+            return each_data(alloc, count, input, allowance);
+        }
     }
     let mut items = Vec::with_capacity(alloc, room_for(count, allowance))?;
     let mut rest = input;
@@ -232,7 +245,9 @@ fn each_within(
     Ok((items, rest))
 }
 
-/// As many DataValues as the count says: a loop of their own, in which each goes from its reader into the list.
+/// As many DataValues as the count says: a loop of their own, in which each goes from its reader into the list. The short
+/// way for a number has a large frame where a compiler puts its readers in line, so only an outermost list goes here: that
+/// frame then stands on the stack once, and not at each level.
 #[cycle(read)]
 #[inline(never)]
 fn each_data(
@@ -467,8 +482,8 @@ fn data_element(alloc: Global, input: &[u8], allowance: u8) -> Result<(Element, 
     ensures gives { Gives (λ x. (element x.0, x.1.now)) result ((elements_within allowance data_kind).front input.now) }
     ensures shorter { IfOk result (λ x. length x.1.now ≤ length input.now) }
 {
-    let (item, rest) = boxed_within(alloc, input, allowance)?;
-    Ok((Element::DataValue(item), rest))
+    let (value, rest) = data_within(alloc, input, allowance)?;
+    Ok((Element::DataValue(Box::new(alloc, value)?), rest))
 }
 
 /// A DiagnosticInfo as an element.
