@@ -1,6 +1,7 @@
 pub mod Items
 pub mod InOrder
 pub mod Utf8
+pub mod Blocks
 pub mod Tested
 pub mod Cells
 pub mod Digits

@@ -25,3 +25,4 @@ pub mod Expanded
 pub mod ExpandedLaws
 pub mod Codes
 pub mod Fixed
+pub mod Ascii

@@ -31,6 +31,7 @@
 #![tactic(auto)]
 
 mod array;
+mod ascii;
 mod bits;
 mod boolean;
 mod bulk;

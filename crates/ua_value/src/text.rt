@@ -10,6 +10,7 @@ ghost use Rattle.ua_value.specs.Format.{Peeks};
 ghost use Rattle.ua_value.specs.Text.{string, longest};
 ghost use Rattle.ua_value.specs.TextLaws.{lawful_string};
 
+use crate::ascii::is_short_ascii;
 use crate::bytes::{LONGEST, bytes_front};
 use crate::fault::{NoMemory, ReadFault, ValueFault};
 use crate::wire::{Sink, Wire};
@@ -44,8 +45,8 @@ fn text_of(bytes: &[u8]) -> Option<&str>
     if bytes.len() >= LONG {
         return long_text_of(bytes);
     }
-    // Most texts are ASCII, which is seen many bytes at a time.
-    if bytes.is_ascii() {
+    // Most texts are ASCII, which is seen by a few comparisons. Of another text `from_utf8` judges all.
+    if is_short_ascii(bytes) {
         return Some(unsafe { std::str::from_utf8_unchecked(bytes) });
     }
     match std::str::from_utf8(bytes) {

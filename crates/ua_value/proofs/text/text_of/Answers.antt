@@ -1,5 +1,6 @@
+use Rattle.std.proofs.Common.{refl}
 use Rattle.std.proofs.lemmas.Str.{IsUtf8-from_ascii}
 use Rattle.ua_value.proofs.text.text_of.Goals as goal
 
 pub from_utf8_unchecked-requires : goal.from_utf8_unchecked-requires
-from_utf8_unchecked-requires c = IsUtf8-from_ascii c.args.bytes.now c.if-is_ascii.ensures.cases
+from_utf8_unchecked-requires c = IsUtf8-from_ascii c.args.bytes.now (c.if-is_short_ascii.ensures refl)
