@@ -1,8 +1,8 @@
 //! Digits as bytes.
 
-ghost use Rattle.std.specs.Prelude.{◌≡◌, ◌<◌, ◌⊎◌, true, [], length, IfOk, IfErr};
+ghost use Rattle.std.specs.Prelude.{◌≡◌, ◌<◌, ◌%◌, ◌⊎◌, true, [], length, IfOk, IfErr};
 ghost use Rattle.hex.specs.Hex.{decode_of, decode_pairs};
-ghost use Rattle.hex.specs.declared.error.FromHexError.TheVariants.{OutOfMemory};
+ghost use Rattle.hex.specs.declared.error.FromHexError.TheVariants.{OddLength, OutOfMemory};
 ghost use Rattle.ua_hex.specs.Digits.{value_or_128};
 
 use hex::FromHexError;
@@ -99,6 +99,7 @@ fn decode_by_hex(digits: &[u8], room: Vec<u8>) -> Result<Vec<u8>, FromHexError>
 pub fn decode(alloc: Global, digits: &[u8]) -> Result<Vec<u8>, FromHexError>
     ensures ok { IfOk result (λ bytes. decode_of digits.now ≡ Ok bytes.items) }
     ensures err { IfErr result (λ e. (e ≡ OutOfMemory) ⊎ (decode_of digits.now ≡ Err e)) }
+    ensures odd { length digits.now % 2 ≡ 1 → result ≡ Err OddLength }
 {
     if digits.len() % 2 != 0 {
         return Err(FromHexError::OddLength);

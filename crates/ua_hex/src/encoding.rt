@@ -1,9 +1,9 @@
 //! Bytes as digits.
 
-ghost use Rattle.std.specs.Prelude.{◌≡◌, ◌<◌, ◌≤◌, ◌+◌, ◌*◌, ◌++◌, length, slice_index, vec_len, vec_capacity, IfOk, IsOk, OnOk, OnErr};
+ghost use Rattle.std.specs.Prelude.{◌≡◌, ◌<◌, ◌≤◌, ◌+◌, ◌*◌, ◌++◌, length, slice_index, vec_len, vec_capacity, IsOk, OnOk, OnErr};
 ghost use Rattle.hex.specs.Hex.{encode_lower, lower_digits};
 
-use std::alloc::{AllocError, Global};
+use std::alloc::AllocError;
 
 /// Bytes of a block.
 const BLOCK: usize = 32;
@@ -48,25 +48,6 @@ fn put_digits(bytes: &[u8], text: &mut Vec<u8>)
         let byte = *byte;
         let _ = text.extend_from_slice(&[digit(byte / 16), digit(byte % 16)]);
     }
-}
-
-/// The bytes as digits in lower case, two for each, with room for so many bytes more behind them.
-///
-/// # Errors
-///
-/// `AllocError` where the room was refused.
-pub fn encode(alloc: Global, bytes: &[u8], more: usize) -> Result<Vec<u8>, AllocError>
-    ensures { IfOk result (λ text. text.items ≡ encode_lower bytes.now) }
-{
-    let Some(digits) = bytes.len().checked_mul(2) else {
-        return Err(AllocError);
-    };
-    let Some(room) = digits.checked_add(more) else {
-        return Err(AllocError);
-    };
-    let mut text = Vec::with_capacity(alloc, room)?;
-    put_digits(bytes, &mut text);
-    Ok(text)
 }
 
 /// Appends the bytes as digits in lower case, two for each. Where the text has room for them it takes no memory, and
