@@ -167,6 +167,53 @@ fn turns_may_be_spent_first(rt: HostRuntime) {
     assert!(rt; by_default(rt.alloc(), is_spent));
 }
 
+/// A link over memory that looks whether the room of each read is zeros.
+#[derive(Drop)]
+struct LookingLink<'a> {
+    inner: MemoryLink<'a>,
+    zeros: bool,
+}
+
+fn are_zeros(bytes: &[u8]) -> bool {
+    for byte in bytes {
+        if *byte != 0 {
+            return false;
+        }
+    }
+    true
+}
+
+impl<'a> Link for LookingLink<'a> {
+    ghost fault_count = { λ l. l.inner.failures };
+
+    fn recv(&mut self, buf: &mut [u8]) -> Result<usize, LinkFault> {
+        self.zeros = self.zeros && are_zeros(buf);
+        self.inner.recv(buf)
+    }
+
+    fn send(&mut self, bytes: &[u8]) -> Result<usize, LinkFault> {
+        self.inner.send(bytes)
+    }
+
+    fn failures(&self) -> u64 {
+        self.inner.failures()
+    }
+}
+
+fn reads_into_zeros(alloc: Global, settings: &Settings) -> bool {
+    let mut link = LookingLink {
+        inner: MemoryLink::new(alloc, &CALLS, SEND_LIMIT),
+        zeros: true,
+    };
+    let report = serve_connection(alloc, settings, 1, &mut link, &mut StillClock, TURNS);
+    came_of(&report) == (End::Closed, 297, 4) && link.zeros
+}
+
+#[test]
+fn each_read_of_a_connection_finds_zeros(rt: HostRuntime) {
+    assert!(rt; by_default(rt.alloc(), reads_into_zeros));
+}
+
 /// How a connection ends whose client sends these pieces and no more.
 fn end_of(alloc: Global, settings: &Settings, pieces: &[&[u8]]) -> Came {
     let mut link = MemoryLink::new(alloc, pieces, SEND_LIMIT);

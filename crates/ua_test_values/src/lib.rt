@@ -39,6 +39,8 @@ mod parts;
 #[cfg(test)]
 mod requests;
 #[cfg(test)]
+mod sinks;
+#[cfg(test)]
 mod spelling;
 #[cfg(test)]
 mod texts;
