@@ -1,6 +1,7 @@
 //! The application of a server, as it is set up.
 
-ghost use Rattle.std.specs.Prelude.{◌≡◌, ◌≤◌, ◌++◌, length, IfOk, OnOk};
+ghost use Rattle.std.specs.Prelude.{◌≡◌, ◌≤◌, ◌++◌, length, IfOk, OnOk, OnErr};
+ghost use Rattle.ua_value.specs.Format.{AppendsPart};
 ghost use Rattle.ua_disco.specs.Answers.{described};
 ghost use Rattle.ua_disco.specs.Spelled.{before_name, behind_name};
 
@@ -62,7 +63,8 @@ impl Application {
     ///
     /// `NoMemory` where a growth was refused; a beginning of it may have been put.
     pub(crate) fn put_front<S: Sink>(&self, out: &mut S) -> Result<(), NoMemory>
-        ensures { OnOk result (S.contents out.new ≡ S.contents out.old ++ before_name self.now) }
+        ensures ok { OnOk result (S.contents out.new ≡ S.contents out.old ++ before_name self.now) }
+        ensures err { OnErr result (AppendsPart (S.contents out.old) (S.contents out.new) (before_name self.now)) }
     {
         (&self.uri, &self.product_uri).emit_parts(out)
     }
@@ -84,7 +86,8 @@ impl Application {
     ///
     /// `NoMemory` where a growth was refused; a beginning of it may have been put.
     pub(crate) fn put_behind<S: Sink>(&self, out: &mut S) -> Result<(), NoMemory>
-        ensures { OnOk result (S.contents out.new ≡ S.contents out.old ++ behind_name self.now) }
+        ensures ok { OnOk result (S.contents out.new ≡ S.contents out.old ++ behind_name self.now) }
+        ensures err { OnErr result (AppendsPart (S.contents out.old) (S.contents out.new) (behind_name self.now)) }
     {
         (
             &self.kind,

@@ -1,6 +1,7 @@
 //! The endpoints of a server, as they are set up.
 
-ghost use Rattle.std.specs.Prelude.{◌≡◌, ◌≤◌, ◌++◌, length, IfOk, OnOk};
+ghost use Rattle.std.specs.Prelude.{◌≡◌, ◌≤◌, ◌++◌, length, IfOk, OnOk, OnErr};
+ghost use Rattle.ua_value.specs.Format.{AppendsPart};
 ghost use Rattle.ua_disco.specs.Answers.{described_endpoint};
 ghost use Rattle.ua_disco.specs.Spelled.{behind_server};
 
@@ -69,7 +70,8 @@ impl Endpoint {
     ///
     /// `NoMemory` where a growth was refused; a beginning of it may have been put.
     pub(crate) fn put_behind<S: Sink>(&self, out: &mut S) -> Result<(), NoMemory>
-        ensures { OnOk result (S.contents out.new ≡ S.contents out.old ++ behind_server self.now) }
+        ensures ok { OnOk result (S.contents out.new ≡ S.contents out.old ++ behind_server self.now) }
+        ensures err { OnErr result (AppendsPart (S.contents out.old) (S.contents out.new) (behind_server self.now)) }
     {
         (
             &self.certificate,

@@ -12,7 +12,7 @@ use crate::endpoint::Endpoint;
 use crate::then::Then;
 use std::alloc::Global;
 use std::marker::Model;
-use ua_value::plumbing::{Parts, Raw, let_go};
+use ua_value::plumbing::{Parts, let_go};
 use ua_value::{LocalizedText, NoMemory, Sink, Wire};
 
 /// An application, and what stands before and behind its name in its description (OPC 10000-4, 7.2): these bytes are the
@@ -83,6 +83,43 @@ fn around_name(alloc: Global, application: &Application) -> Result<(Vec<u8>, Vec
     Ok((front, behind))
 }
 
+/// What stands before the name of an application. It is put at once; a sink that refuses it as a whole gets the parts that
+/// it takes, as it would if they had not been spelled before.
+#[derive(Clone, Copy)]
+struct BeforeName<'a> {
+    application: &'a SpelledApplication,
+}
+
+impl<'a> Parts for BeforeName<'a> {
+    ghost spelling = { λ p. before_name p.application.now };
+
+    fn emit_parts<S: Sink>(&self, out: &mut S) -> Result<(), NoMemory> {
+        let application = self.application;
+        match out.put(&application.front) {
+            Ok(()) => Ok(()),
+            Err(_) => application.application.put_front(out),
+        }
+    }
+}
+
+/// What stands behind the name of an application, put in the same way.
+#[derive(Clone, Copy)]
+struct BehindName<'a> {
+    application: &'a SpelledApplication,
+}
+
+impl<'a> Parts for BehindName<'a> {
+    ghost spelling = { λ p. behind_name p.application.now };
+
+    fn emit_parts<S: Sink>(&self, out: &mut S) -> Result<(), NoMemory> {
+        let application = self.application;
+        match out.put(&application.behind) {
+            Ok(()) => Ok(()),
+            Err(_) => application.application.put_behind(out),
+        }
+    }
+}
+
 /// An application under one of its names, both lent: what its description is written as, with none made.
 #[derive(Clone, Copy)]
 pub(crate) struct NamedApplication<'a> {
@@ -108,13 +145,8 @@ impl<'a> Parts for NamedApplication<'a> {
 
     fn emit_parts<S: Sink>(&self, out: &mut S) -> Result<(), NoMemory> {
         let application = self.application;
-        let first = Raw {
-            bytes: &application.front,
-        };
-        let last = Raw {
-            bytes: &application.behind,
-        };
-        let behind = (self.name, last);
+        let first = BeforeName { application };
+        let behind = (self.name, BehindName { application });
         Then { first, behind }.emit_parts(out)
     }
 }
@@ -187,9 +219,7 @@ impl SpelledEndpoint {
         ensures ok { OnOk result (S.contents out.new ≡ S.contents out.old ++ endpoint_description.canon (described_endpoint server.now.application.now server.now.name.now self.now)) }
         ensures err { OnErr result (AppendsPart (S.contents out.old) (S.contents out.new) (endpoint_description.canon (described_endpoint server.now.application.now server.now.name.now self.now))) }
     {
-        let behind = Raw {
-            bytes: &self.behind,
-        };
+        let behind = BehindServer { endpoint: self };
         (
             &self.endpoint.url,
             Then {
@@ -201,7 +231,25 @@ impl SpelledEndpoint {
     }
 }
 
-/// What stands behind the server of an endpoint.
+/// What stands behind the server of an endpoint, put as `BeforeName` is.
+#[derive(Clone, Copy)]
+struct BehindServer<'a> {
+    endpoint: &'a SpelledEndpoint,
+}
+
+impl<'a> Parts for BehindServer<'a> {
+    ghost spelling = { λ p. behind_server p.endpoint.now };
+
+    fn emit_parts<S: Sink>(&self, out: &mut S) -> Result<(), NoMemory> {
+        let endpoint = self.endpoint;
+        match out.put(&endpoint.behind) {
+            Ok(()) => Ok(()),
+            Err(_) => endpoint.endpoint.put_behind(out),
+        }
+    }
+}
+
+/// The bytes of what stands behind the server of an endpoint.
 fn behind_of(alloc: Global, endpoint: &Endpoint) -> Result<Vec<u8>, NoMemory>
     ensures bytes { IfOk result (λ v. v.items ≡ behind_server endpoint.now) }
     ensures few { IfOk result (λ v. length v.items ≤ 1152921511049297938) }

@@ -57,6 +57,8 @@ mod schedules;
 #[cfg(test)]
 mod settings;
 #[cfg(test)]
+mod sinks;
+#[cfg(test)]
 mod stories;
 #[cfg(test)]
 mod telling;
