@@ -317,8 +317,8 @@ fn call(
     digest: &mut Digest,
 ) -> Result<(), Failed> {
     let url = UaString::null();
-    // No two openings are the same: the first sequence number is drawn.
-    let first = draw.half() % 1_000_000 + 1;
+    // The first sequence number is drawn from so many that two openings are hardly the same.
+    let first = draw.half() % 4_000_000_000 + 1;
     let client = Client::new(alloc, CONFIG, &url, first);
     lend(
         client,

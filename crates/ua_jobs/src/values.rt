@@ -94,6 +94,11 @@ fn put_element(
             put_text(out, b"en")?;
             put_text(out, pool.some(draw, 16 + (n % 16) as usize))
         }
+        // The first is an Int32, so that no two lists are the same.
+        Kind::Null if n == 0 => {
+            out.push(6)?;
+            put_number(out, draw.half())
+        }
         Kind::Null => {
             out.push(0)?;
             Ok(())
