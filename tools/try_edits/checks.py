@@ -10,102 +10,91 @@ import threading
 from try_edits.edits import functions_of, key_of, read, sources, write
 
 PARTS = ("src", "specs", "proofs")
-KIT = os.path.dirname(os.path.dirname(os.path.realpath(shutil.which("rt") or "/opt/rattle/bin/rt")))
 HARMLESS = "let _harmless = 0u8;"
 
 # What a check said of a function: whether it is proved, its open goals by name, where they are, and the errors in its proof files.
 Verdict = collections.namedtuple("Verdict", "proved goals notes errors")
 
 
-def copy_sources(crate, to):
-    for part in PARTS:
-        if os.path.isdir(f"{crate.folder}/{part}"):
-            shutil.copytree(f"{crate.folder}/{part}", f"{to}/{part}")
+def copied(folder, to, *words):
+    """Copies a folder, with its times; with --link its files are linked, where both are on one file system."""
+    os.makedirs(os.path.dirname(to), exist_ok=True)
+    return subprocess.run(["cp", "-a", *words, folder, to], stderr=subprocess.DEVNULL, check=False).returncode == 0
 
 
-def has_statements(crate):
-    """Whether `rt ci` left the statements of a library, later than its sources and those below it were written."""
-    rlib = f"{crate.folder}/out/rlib"
-    sources_of_all = max(map(newest_of, [*crate.below, crate]))
-    return not os.path.exists(f"{rlib}/stamp") and sources_of_all < newest(f"{rlib}/{crate.name}.rlib")
+def linked(folder, to):
+    """Links the files of a folder, which `rt` does not write into: it puts a new file in the place of an old one."""
+    if os.path.isdir(folder) and not copied(folder, to, "--link"):
+        shutil.rmtree(to, ignore_errors=True)
+        copied(folder, to)
 
 
-def words_over_statements(crate):
-    """The words of `rattle check` for a crate over the libraries that `rt ci` left."""
-    words = ["--crate-name", crate.name, "src/main.rt" if crate.is_program else "src/lib.rt"]
-    words += [it for name in ("std", *crate.of_kit) for it in ("--extern", f"{name}={KIT}/rlibs/{name}.rlib")]
-    words += ["-L", f"dependency={KIT}/rlibs"]
-    words += [it for dep in crate.deps for it in ("--extern", f"{dep.name}={dep.folder}/out/rlib/{dep.name}.rlib")]
-    words += [it for dep in crate.below for it in ("-L", f"dependency={dep.folder}/out/rlib")]
-    words += ["--antt-project", f"{KIT}/rattle/logic/antt-project.json", "--logic-built", f"{KIT}/logic_built"]
-    return [*words, "--incremental", "out/incremental"]
+class Repository:
+    """A copy of crates of the repository: their sources, and for each the folder out/ of another copy, which `rt` fills and reads."""
+
+    def __init__(self, top):
+        self.top, self.crates = top, []
+        os.makedirs(f"{top}/crates")
+
+    def add(self, crate, out):
+        """Copies the sources of a crate, and links its folder out/ as it is there, or takes none."""
+        for part in PARTS:
+            if os.path.isdir(f"{crate.folder}/{part}"):
+                copied(f"{crate.folder}/{part}", f"{self.top}/crates/{crate.name}/{part}")
+        if out:
+            linked(out, f"{self.top}/crates/{crate.name}/out")
+        self.crates.append(crate)
+        write(f"{self.top}/crates.txt", "".join(f"{it.line}\n" for it in self.crates))
+
+    def out(self, crate):
+        return f"{self.top}/crates/{crate.name}/out"
+
+    def run(self, crate, verb, *more):
+        """Runs a verb of `rt` for a crate, and returns the exit status and what was said."""
+        return ran(f"{self.top}/crates/{crate.name}", "rt", verb, *more)
 
 
 class Rooms:
-    """The temporary folder: kept/CRATE has the sources of each crate and its proved work; each check has a room, a repository of its own."""
+    """The temporary folder: in `whole` each crate is proved as it stands; each lane has a repository of its own for the checks."""
 
-    def __init__(self, over_statements):
+    def __init__(self, wanted):
         self.top = tempfile.mkdtemp(prefix="try-edits-")
-        self.over_statements = over_statements
-        self.count, self.lock = 0, threading.Lock()
+        self.whole = Repository(f"{self.top}/whole")
+        for crate in wanted:
+            self.whole.add(crate, f"{crate.folder}/out")
+        self.lanes, self.count, self.lock = [], 0, threading.Lock()
 
-    def run(self, crate, room, verb, *more):
-        """Runs a verb of `rt` for a crate in its room, and returns the exit status and what was said."""
-        folder = f"{room}/crates/{crate.name}"
-        if self.over_statements:
-            return ran(folder, f"{KIT}/bin/rattle", verb, *words_over_statements(crate), *more)
-        return ran(folder, "rt", verb, *more)
+    def prove(self, crate, is_library, jobs):
+        """Proves a crate as it stands, over what is kept of it, and builds its library where one above stands on it. `rt lib` says nothing of a crate whose library is up to date."""
+        status, said = self.whole.run(crate, "lib", "--jobs", str(jobs)) if is_library else (0, "")
+        if status == 0 and crate.places and verdicts_of(said) is None:
+            status, said = self.whole.run(crate, "check", "--jobs", str(jobs))
+        return status, said
 
-    def keep(self, crate):
-        """Copies a crate, with what is kept of it and of use: its library, and the work of its checks where there is something to check."""
-        to, out = f"{self.top}/kept/{crate.name}", f"{crate.folder}/out"
-        copy_sources(crate, to)
-        built = newest_of(crate) < newest(f"{out}/rlib")
-        if os.path.isfile(f"{out}/rlib/stamp"):
-            shutil.copytree(f"{out}/rlib", f"{to}/out/rlib")
-        if os.path.isdir(f"{out}/incremental") and (crate.places or not built):
-            shutil.copytree(f"{out}/incremental", f"{to}/out/incremental")
-
-    def forget_work(self, crate):
-        """Makes room on the disk: the crates above need the library alone."""
-        shutil.rmtree(f"{self.top}/kept/{crate.name}/out/incremental", ignore_errors=True)
-
-    def open(self, crate):
-        """Makes a room for a check of a crate. Work that is kept is linked, since `rt` puts a new file in the place of an old one."""
+    def check(self, crate, texts, *more):
+        """Checks a crate with these files in place of its own, over its proof and those of the crates below, and puts all back."""
+        lane = self.free_lane()
+        for it in [*crate.below, crate]:
+            if it not in lane.crates:
+                lane.add(it, self.whole.out(it))
+        for file, text in texts.items():
+            write(f"{lane.top}/crates/{crate.name}/{file}", text)
+        status, said = lane.run(crate, "check", *more)
+        for file in texts:
+            shutil.copy2(f"{crate.folder}/{file}", f"{lane.top}/crates/{crate.name}/{file}")
+        shutil.rmtree(lane.out(crate), ignore_errors=True)
+        linked(self.whole.out(crate), lane.out(crate))
         with self.lock:
+            self.lanes.append(lane)
+        return status, said
+
+    def free_lane(self):
+        """A repository that no check works in, a new one where there is none."""
+        with self.lock:
+            if self.lanes:
+                return self.lanes.pop()
             self.count += 1
-            room = f"{self.top}/room{self.count}"
-        for it in [] if self.over_statements else crate.below:
-            for part in (*PARTS, "out/rlib"):
-                link(f"{self.top}/kept/{it.name}/{part}", f"{room}/crates/{it.name}/{part}")
-        copy_sources(crate, f"{room}/crates/{crate.name}")
-        for part in ("incremental", "rlib"):
-            link(f"{self.top}/kept/{crate.name}/out/{part}", f"{room}/crates/{crate.name}/out/{part}")
-        write(f"{room}/crates.txt", "".join(f"{it.line}\n" for it in [*crate.below, crate]))
-        return room
-
-    def close(self, crate, room, *kept):
-        """Removes a room, and keeps parts of what its check left."""
-        for part in kept:
-            made, to = f"{room}/crates/{crate.name}/out/{part}", f"{self.top}/kept/{crate.name}/out/{part}"
-            if os.path.isdir(made):
-                shutil.rmtree(to, ignore_errors=True)
-                shutil.move(made, to)
-        shutil.rmtree(room, ignore_errors=True)
-
-
-def newest(folder):
-    times = [os.path.getmtime(f"{at}/{name}") for at, _, names in os.walk(folder) for name in names]
-    return max(times, default=0)
-
-
-def newest_of(crate):
-    return max(newest(f"{crate.folder}/{part}") for part in PARTS)
-
-
-def link(folder, to):
-    if os.path.isdir(folder):
-        shutil.copytree(folder, to, copy_function=os.link)
+            return Repository(f"{self.top}/lane{self.count}")
 
 
 class Stopped(Exception):
@@ -238,12 +227,6 @@ def only_of(batch, control, verdicts):
     if not all(named) or not all(place.functions for place in batch):
         return []
     return [it for path in dict.fromkeys(path for paths in named for path in paths) for it in ("--only", "::".join(path))]
-
-
-def said_by_ci(path):
-    """What `rt ci` said of each crate that it proved, by its name."""
-    parts = re.findall(r"^== (\w+)\n(.*?)^rt: \1 proved$", read(path), re.M | re.S)
-    return dict(parts)
 
 
 REFUSED_BY_CI = re.compile(r"^rt: must-fail (\w+)/(\S+)\.edit: refused, as it must be(?! \(only)", re.M)
