@@ -102,7 +102,7 @@ fn shows_help_and_the_version(rt: HostRuntime) {
         expect_text(&rt, &[word], "  answer  ");
     }
     for word in ["--version", "-V"] {
-        expect_text(&rt, &[word], "uadisc 0.1.0 (rattle-kit-");
+        expect_text(&rt, &[word], "uadisc 0.1.0 (logic ");
     }
     expect_text(
         &rt,

@@ -9,8 +9,8 @@ use clap::builder::ValueParser;
 use clap::{Arg, ArgAction, Command as Parser};
 use std::alloc::{AllocError, Global};
 
-/// The version of the program, and the line by which its kit tells itself apart (`rt version`).
-const VERSION: &str = "0.1.0 (rattle-kit-13f logic dac8208d650f15bf)";
+/// The version of the program, and the logic by which it is proved, as `rt version` names it.
+const VERSION: &str = "0.1.0 (logic dac8208d650f15bf)";
 
 /// A word that has to be there, with its name and its line in the help.
 fn required<'a>(alloc: Global, id: &'a str, name: &'a str, help: &'a str) -> Arg<'a>
