@@ -169,7 +169,7 @@ fn tell_all(alloc: Global, settings: &Settings, first: u32) -> Tally {
     tally
 }
 
-/// Whether each schedule was told, and steps of each kind had an effect.
+/// Whether each schedule was told, and among them were closes, aborts and answers that are no aborts.
 fn is_ample(tally: Tally) -> bool {
     tally.told == SCHEDULES
         && tally.closed > 0
