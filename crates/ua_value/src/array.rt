@@ -101,10 +101,7 @@ fn copy_items<T: Wire>(alloc: Global, items: &[T]) -> Result<Vec<T>, NoMemory>
 {
     let mut copies = Vec::with_capacity(alloc, items.len())?;
     for item in items {
-        // `push` could hand the copy back, so it would copy it once more for each.
-        copies.reserve(1)?;
-        let copy = item.copy()?;
-        copies.push_reserved(copy);
+        copies.push(item.copy()?)?;
     }
     Ok(copies)
 }
