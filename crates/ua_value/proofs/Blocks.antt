@@ -1,4 +1,4 @@
--- The comparison of sixteen bytes at once.
+-- The comparison of several bytes at once.
 use Rattle.std.proofs.Common.{◌≡◌, ◌≤◌, ℕ, zero, suc, ◌+◌, ◌-◌, ◌^◌, ◌%◌, ◌<◌, Bool, true, false, cond, eqb, leb, List, [], ◌∷◌, map, length, take, drop, get_or, replicate, refl, sym, ap, subst, ◌∙◌, arith, leb-false, eqb-true}
 use Rattle.std.proofs.lemmas.List.{get_or-drop, get_or-take, length-drop, length-map, length-replicate, length-take-le}
 use Rattle.std.proofs.lemmas.Simd.{length-zip2, mask_l-mod}
@@ -22,38 +22,38 @@ low_bytes [] none i = omega arith
 low_bytes (b ∷ block) none zero = low_byte b (leb 128 b) refl (omega arith)
 low_bytes (b ∷ block) none (suc i) = low_bytes block (omega arith) i
 
--- a mask of sixteen bits is not cut
-uncut : (block : List ℕ) → length block ≡ 16 → high_mask block % 2 ^ 64 ≡ high_mask block
-uncut block long =
+-- a mask of at most 64 bits is not cut
+uncut : (block : List ℕ) → length block ≤ 64 → high_mask block % 2 ^ 64 ≡ high_mask block
+uncut block short =
     let ones : List ℕ = replicate (length block) 128 in
     let as_long : length ones ≡ length block = length-replicate (length block) 128 in
-    mask_l-mod _ 64 (omega (arith, length-map (zip2 ones_at_most ones block) (top 7), as_long, length-zip2 ones_at_most ones block as_long))
+    mask_l-mod _ 64 (omega (arith, short, length-map (zip2 ones_at_most ones block) (top 7), as_long, length-zip2 ones_at_most ones block as_long))
 
--- the block that begins at a place, as it is read
-abbrev pub block_at : List ℕ → ℕ → List ℕ
-block_at bytes at = chunk 0 16 (take (at + 16 - at) (drop at bytes))
+-- so many bytes from a place on, as they are read
+abbrev pub block_at : ℕ → List ℕ → ℕ → List ℕ
+block_at n bytes at = chunk 0 n (take (at + n - at) (drop at bytes))
 
-length_block : (bytes : List ℕ) (at : ℕ) → at + 16 ≤ length bytes → length (block_at bytes at) ≡ 16
-length_block bytes at le =
+length_block : (n : ℕ) (bytes : List ℕ) (at : ℕ) → at + n ≤ length bytes → length (block_at n bytes at) ≡ n
+length_block n bytes at le =
     let behind : length (drop at bytes) ≡ length bytes - at = length-drop at bytes in
-    let first : length (take (at + 16 - at) (drop at bytes)) ≡ at + 16 - at = length-take-le (at + 16 - at) (drop at bytes) (omega (arith, behind)) in
-    length-take-le 16 (take (at + 16 - at) (drop at bytes)) (omega (arith, first))
+    let first : length (take (at + n - at) (drop at bytes)) ≡ at + n - at = length-take-le (at + n - at) (drop at bytes) (omega (arith, behind, le)) in
+    length-take-le n (take (at + n - at) (drop at bytes)) (omega (arith, first))
 
-byte_of_block : (bytes : List ℕ) (at i : ℕ) → at ≤ i → i < at + 16 → get_or (block_at bytes at) (i - at) 0 ≡ get_or bytes i 0
-byte_of_block bytes at i from to =
+byte_of_block : (n : ℕ) (bytes : List ℕ) (at i : ℕ) → at ≤ i → i < at + n → get_or (block_at n bytes at) (i - at) 0 ≡ get_or bytes i 0
+byte_of_block n bytes at i from to =
     let place : at + (i - at) ≡ i = omega arith in
-    get_or-take 16 (take (at + 16 - at) (drop at bytes)) (i - at) 0 (omega arith)
-    ∙ get_or-take (at + 16 - at) (drop at bytes) (i - at) 0 (omega arith)
+    get_or-take n (take (at + n - at) (drop at bytes)) (i - at) 0 (omega arith)
+    ∙ get_or-take (at + n - at) (drop at bytes) (i - at) 0 (omega arith)
     ∙ get_or-drop at bytes (i - at) 0
     ∙ ap (λ k. get_or bytes k 0) place
 
 -- where no byte of the block is 128 or more, all are ASCII
-pub block_ascii : (bytes : List ℕ) (at : ℕ) → at + 16 ≤ length bytes
-    → eqb (mask_l (map (top 7) (zip2 ones_at_most (replicate 16 128) (block_at bytes at))) % 2 ^ 64) 0 ≡ true
-    → AreAscii bytes at (at + 16)
-block_ascii bytes at le e i from to =
-    let block = block_at bytes at in
-    let long = length_block bytes at le in
-    let same = ap (λ n. mask_l (map (top 7) (zip2 ones_at_most (replicate n 128) block))) long in
-    let none : high_mask block ≡ 0 = sym (uncut block long) ∙ ap (λ m. m % 2 ^ 64) same ∙ eqb-true _ _ e in
-    subst (λ b. b < 128) (byte_of_block bytes at i from to) (low_bytes block none (i - at))
+pub block_ascii : (n : ℕ) (bytes : List ℕ) (at : ℕ) → n ≤ 64 → at + n ≤ length bytes
+    → eqb (mask_l (map (top 7) (zip2 ones_at_most (replicate n 128) (block_at n bytes at))) % 2 ^ 64) 0 ≡ true
+    → AreAscii bytes at (at + n)
+block_ascii n bytes at short le e i from to =
+    let block = block_at n bytes at in
+    let long = length_block n bytes at le in
+    let same = ap (λ k. mask_l (map (top 7) (zip2 ones_at_most (replicate k 128) block))) long in
+    let none : high_mask block ≡ 0 = sym (uncut block (omega (arith, long, short))) ∙ ap (λ m. m % 2 ^ 64) same ∙ eqb-true _ _ e in
+    subst (λ b. b < 128) (byte_of_block n bytes at i from to) (low_bytes block none (i - at))
