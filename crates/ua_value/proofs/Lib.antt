@@ -1,4 +1,5 @@
 pub mod Items
+pub mod Rooms
 pub mod InOrder
 pub mod Utf8
 pub mod Blocks

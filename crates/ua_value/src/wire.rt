@@ -1,6 +1,6 @@
 //! Values that are spelled as bytes.
 
-ghost use Rattle.std.specs.Prelude.{◌≡◌, ◌≤◌, ◌++◌, List, ℕ, length, if◌then◌else◌, is_ok, OnOk, OnErr, IfOk, IfErr};
+ghost use Rattle.std.specs.Prelude.{◌≡◌, ◌≤◌, ◌<◌, ◌+◌, ◌*◌, ◌++◌, [], List, ℕ, length, max, vec_len, vec_capacity, if◌then◌else◌, is_ok, OnOk, OnErr, IfOk, IfErr};
 ghost use Rattle.std.specs.List.{flat_map};
 ghost use Rattle.ua_value.specs.Format.{Format, IsLawful, Reads, Gives, AppendsPart, IsBytes, input_limit};
 ghost use Rattle.ua_value.specs.Array.{items_at};
@@ -114,7 +114,7 @@ pub trait Wire: Sized + Drop {
     }
 
     /// How many values so many bytes can spell at the most, where that is told by the shortest spelling; else 0. A list is
-    /// read into room for no more than these, unless its type says another room, and grows with those that follow.
+    /// read into room for no more than these, and grows with those that follow.
     fn most_in(bytes: usize) -> usize
         ensures { result ≤ bytes }
     {
@@ -132,11 +132,13 @@ pub trait Wire: Sized + Drop {
         ensures gives { Gives (λ x. (x.0.items, x.1.now)) result (items_at format.grammar count input.now) }
         ensures shorter { IfOk result (λ x. length x.1.now ≤ length input.now) }
     {
-        Self::read_each(alloc, Self::most_in(input.len()), 1, count, input)
+        Self::read_each(alloc, Self::most_in(input.len()), 0, count, input)
     }
 
-    /// The same. The list has room for `room` values, or for all where they are fewer, before the first is read, and then
-    /// for `more`, or for all, with the first. A type whose lists need other room says so in its `read_items`.
+    /// The same. The list has room for `room` values, or for all where they are fewer, before the first is read. Where it
+    /// has none left it makes room for as many again as were read, and for no more than `limit` together as long as they
+    /// are fewer: how many values the input can spell at the most, for a type whose lists have no room before the first.
+    /// Such a type says so in its `read_items`.
     ///
     /// # Errors
     ///
@@ -144,7 +146,7 @@ pub trait Wire: Sized + Drop {
     fn read_each(
         alloc: Global,
         room: usize,
-        more: usize,
+        limit: usize,
         count: u32,
         input: &[u8],
     ) -> Result<(Vec<Self>, &[u8]), ReadFault>
@@ -152,18 +154,47 @@ pub trait Wire: Sized + Drop {
         ensures gives { Gives (λ x. (x.0.items, x.1.now)) result (items_at format.grammar count input.now) }
         ensures shorter { IfOk result (λ x. length x.1.now ≤ length input.now) }
     {
-        let mut items = Vec::with_capacity(alloc, room.min(count as usize))?;
-        let mut wanted = more.min(count as usize).max(1);
+        let mut items = Vec::new(alloc);
+        match Self::read_into(alloc, &mut items, room, limit, count, input) {
+            Ok(rest) => Ok((items, rest)),
+            Err(fault) => Err(fault),
+        }
+    }
+
+    /// The same, into a list that has none yet, and no room. It has the values that were read, also where a later one is
+    /// refused, and room for no more than the count says: for `room`, or for these values and as many again, at the least
+    /// 64, and no more than `limit` as long as they are fewer.
+    ///
+    /// # Errors
+    ///
+    /// As of `read_items`.
+    fn read_into<'a>(
+        alloc: Global,
+        items: &mut Vec<Self>,
+        room: usize,
+        limit: usize,
+        count: u32,
+        input: &'a [u8],
+    ) -> Result<&'a [u8], ReadFault>
+        requires short { length input.now ≤ input_limit }
+        requires none { items.old.items ≡ [] }
+        requires empty { vec_capacity items.old ≡ 0 }
+        ensures gives { Gives (λ x. (items.new.items, x.now)) result (items_at format.grammar count input.now) }
+        ensures shorter { IfOk result (λ x. length x.now ≤ length input.now) }
+        ensures read { vec_capacity items.new ≤ max room (64 + 2 * vec_len items.new) }
+        ensures limit { vec_capacity items.new ≤ max room (max limit (4 + 2 * vec_len items.new)) }
+        ensures count { vec_capacity items.new ≤ count }
+    {
+        items.reserve_exact(room.min(count as usize))?;
         let mut rest = input;
-        for _ in 0..count {
+        'values: for read in 0..count {
             let (item, after) = Self::read_front(alloc, rest)?;
+            make_room(items, limit, (count - read) as usize)?;
             // `push` could hand the item back, so it would copy it once more for each.
-            items.reserve(wanted)?;
             items.push_reserved(item);
-            wanted = 1;
             rest = after;
         }
-        Ok((items, rest))
+        Ok(rest)
     }
 
     /// Puts the canonical spellings of the values into `out`, one after another (OPC 10000-6, 5.2.5).
@@ -183,6 +214,36 @@ pub trait Wire: Sized + Drop {
 
     // what is read is spelled so, what is spelled so is read, and the canonical spelling is one
     ghost laws: { IsLawful format };
+}
+
+/// How many values a list makes room for with its first, where the input can spell so many.
+const FIRST: usize = 64;
+
+/// How many values a list makes room for with its first, where nothing says how many the input can spell.
+const FEW: usize = 4;
+
+/// Room for one more value, of `left` that are still to be put. Where there is none it is made for as many again as there
+/// are: so values are moved no more often than they are put, and what is asked for follows what was read, whatever the
+/// count says.
+fn make_room<T>(items: &mut Vec<T>, limit: usize, left: usize) -> Result<(), NoMemory>
+    requires { 1 ≤ left }
+    ensures items { items.new.items ≡ items.old.items }
+    ensures len { vec_len items.new ≡ vec_len items.old }
+    ensures ok { OnOk result (vec_len items.new < vec_capacity items.new) }
+    ensures read { vec_capacity items.new ≤ max (vec_capacity items.old) (64 + 2 * vec_len items.old) }
+    ensures limit { vec_capacity items.new ≤ max (vec_capacity items.old) (max limit (4 + 2 * vec_len items.old)) }
+    ensures count { vec_capacity items.new ≤ max (vec_capacity items.old) (vec_len items.old + left) }
+{
+    let len = items.len();
+    if len < items.capacity() {
+        return Ok(());
+    }
+    let more = if len < limit {
+        len.max(FIRST).min(limit - len)
+    } else {
+        len.max(FEW)
+    };
+    items.reserve_exact(more.min(left))
 }
 
 /// Says that the bytes are bytes.
