@@ -98,15 +98,6 @@ impl OtherRequest {
         ensures ok { OnOk result (S.contents out.new ≡ S.contents out.old ++ canon_other self.now) }
         ensures err { OnErr result (AppendsPart (S.contents out.old) (S.contents out.new) (canon_other self.now)) }
     {
-        (
-            &self.type_id,
-            (
-                &self.header,
-                Raw {
-                    bytes: self.rest.as_slice(),
-                },
-            ),
-        )
-            .emit_parts(out)
+        (self.type_id(), (&self.header, Raw { bytes: self.rest() })).emit_parts(out)
     }
 }
