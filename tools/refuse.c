@@ -1,5 +1,6 @@
-/* Preloaded into a test program: the allocation of the number in REFUSE_AT is refused, and where
-   it came, "met" is written into the file that REFUSED names when the program ends. */
+/* Preloaded into a test program: the allocation of the number in REFUSE_AT is refused, and so is each one by which
+   the program has asked for more than ASK_AT_MOST bytes in all. Where one was refused, "met" is written into the
+   file that REFUSED names when the program ends. */
 #define _GNU_SOURCE
 #include <fcntl.h>
 #include <stddef.h>
@@ -9,19 +10,26 @@
 extern void *__libc_malloc(size_t);
 extern void *__libc_realloc(void *, size_t);
 
-static unsigned long left;
+static unsigned long left, most, asked;
 static int is_ready, is_over, is_met;
 
-static int is_refused(void)
+static unsigned long number_of(const char *name)
+{
+    const char *text = getenv(name);
+    return text ? strtoul(text, NULL, 10) : 0;
+}
+
+static int is_refused(size_t size)
 {
     if (is_over)
         return 0;
     if (!is_ready) {
-        const char *at = getenv("REFUSE_AT");
-        left = at ? strtoul(at, NULL, 10) : 0;
+        left = number_of("REFUSE_AT");
+        most = number_of("ASK_AT_MOST");
         is_ready = 1;
     }
-    if (left == 0 || --left != 0)
+    asked += size;
+    if ((most == 0 || asked <= most) && (left == 0 || --left != 0))
         return 0;
     is_met = 1;
     return 1;
@@ -29,12 +37,12 @@ static int is_refused(void)
 
 void *malloc(size_t size)
 {
-    return is_refused() ? NULL : __libc_malloc(size);
+    return is_refused(size) ? NULL : __libc_malloc(size);
 }
 
 void *realloc(void *old, size_t size)
 {
-    return is_refused() ? NULL : __libc_realloc(old, size);
+    return is_refused(size) ? NULL : __libc_realloc(old, size);
 }
 
 __attribute__((destructor)) static void tell(void)

@@ -25,6 +25,8 @@ mod conversations;
 #[cfg(test)]
 mod embedding;
 #[cfg(test)]
+mod great_counts;
+#[cfg(test)]
 mod hostile;
 #[cfg(test)]
 mod hostile_answers;

@@ -23,6 +23,8 @@ mod given;
 #[cfg(test)]
 mod headers;
 #[cfg(test)]
+mod lists;
+#[cfg(test)]
 mod making;
 #[cfg(test)]
 mod memory;
@@ -38,6 +40,8 @@ mod numbers;
 mod parts;
 #[cfg(test)]
 mod requests;
+#[cfg(test)]
+mod short_texts;
 #[cfg(test)]
 mod sinks;
 #[cfg(test)]
