@@ -35,6 +35,8 @@ mod nodes;
 #[cfg(test)]
 mod number_arrays;
 #[cfg(test)]
+mod number_data;
+#[cfg(test)]
 mod numbers;
 #[cfg(test)]
 mod parts;
