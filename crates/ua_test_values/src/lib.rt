@@ -11,6 +11,8 @@ mod bodies;
 #[cfg(test)]
 mod buffer;
 #[cfg(test)]
+mod by_parts;
+#[cfg(test)]
 mod counts;
 #[cfg(test)]
 mod depth;

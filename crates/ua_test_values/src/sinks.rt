@@ -8,9 +8,9 @@ use ua_variant::DataValue;
 
 /// What was put, and for how many bytes more there is room.
 #[derive(Drop)]
-struct SmallSink {
-    bytes: Vec<u8>,
-    room: usize,
+pub(crate) struct SmallSink {
+    pub(crate) bytes: Vec<u8>,
+    pub(crate) room: usize,
 }
 
 impl Sink for SmallSink {

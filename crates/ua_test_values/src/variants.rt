@@ -73,7 +73,7 @@ fn diagnostics_keep_what_is_flagged(rt: HostRuntime) {
 }
 
 /// A single value of each kind, as it is written.
-const SINGLES: [(Kind, &[u8]); 24] = [
+pub(crate) const SINGLES: [(Kind, &[u8]); 24] = [
     (Kind::Boolean, &[0x01, 1]),
     (Kind::SByte, &[0x02, 0xfe]),
     (Kind::Byte, &[0x03, 0xfe]),
