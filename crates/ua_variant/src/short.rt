@@ -1,14 +1,14 @@
 //! A DataValue whose value is a single number or truth value, put together on the stack and then put at once.
 
-ghost use Rattle.std.specs.Prelude.{◌≡◌, ◌++◌, true, if◌then◌else◌, IfSome};
+ghost use Rattle.std.specs.Prelude.{◌≡◌, ◌++◌, [], true, if◌then◌else◌, IfSome};
 ghost use Rattle.ua_variant.specs.Spelling.{element_canon, data_canon};
 ghost use Rattle.ua_variant.specs.View.{element};
 
 use crate::element::LAST_NUMBER;
 use crate::variant::{Body, DataValue, Element};
 use crate::writing::head_of;
-use arrayvec::ArrayVec;
 use std::alloc::AllocError;
+use std::marker::Model;
 use ua_value::{NoMemory, Sink, Wire};
 
 /// The mask, the kind, a number of at most 8 bytes, and 24 bytes of stamps, rounded up.
@@ -17,25 +17,58 @@ const MOST: usize = 40;
 /// A few bytes that were put. It refuses what it has no room for.
 #[derive(Drop)]
 struct Short {
-    bytes: ArrayVec<u8, MOST>,
+    bytes: [u8; MOST],
+    len: usize,
+}
+
+impl Model for Short {
+    ghost use Rattle.std.specs.Prelude.{List, ℕ, ◌≤◌, take};
+
+    ghost Value = { List ℕ };
+
+    ghost view = { λ s. take s.len s.bytes };
+
+    ghost invariant = { λ s. s.len ≤ 40 };
+}
+
+impl Short {
+    #[inline(always)]
+    fn new() -> Short
+        ensures { result ≡ [] }
+    {
+        Short {
+            bytes: [0; MOST],
+            len: 0,
+        }
+    }
+
+    #[inline(always)]
+    fn as_slice(&self) -> &[u8]
+        ensures { result.now ≡ self.now }
+    {
+        &self.bytes[..self.len]
+    }
 }
 
 impl Sink for Short {
-    ghost contents = { λ s. s.bytes.items };
+    ghost contents = { λ s. s };
 
     #[inline(always)]
     fn put(&mut self, bytes: &[u8]) -> Result<(), NoMemory> {
-        match self.bytes.try_extend_from_slice(bytes) {
-            Ok(()) => Ok(()),
-            Err(_) => Err(AllocError),
+        if bytes.len() > MOST - self.len {
+            return Err(AllocError);
         }
+        let end = self.len + bytes.len();
+        self.bytes[self.len..end].copy_from_slice(bytes);
+        self.len = end;
+        Ok(())
     }
 }
 
 /// Puts a truth value or a number; of any other element it says that it did not.
 #[inline(always)]
 fn put_number(item: &Element, out: &mut Short) -> bool
-    ensures { result ≡ true → out.new.bytes.items ≡ out.old.bytes.items ++ element_canon (element item.now) }
+    ensures { result ≡ true → out.new ≡ out.old ++ element_canon (element item.now) }
 {
     match item {
         Element::Boolean(value) => value.emit(out).is_ok(),
@@ -69,7 +102,7 @@ pub(crate) fn is_short(value: &DataValue) -> bool {
 /// The spelling of a DataValue whose value is a single number or truth value, and of no other one.
 #[inline(always)]
 fn spelled(value: &DataValue) -> Option<Short>
-    ensures { IfSome result (λ s. s.bytes.items ≡ data_canon value.now) }
+    ensures { IfSome result (λ s. s ≡ data_canon value.now) }
 {
     let Some(inner) = &value.value else {
         return None;
@@ -77,9 +110,7 @@ fn spelled(value: &DataValue) -> Option<Short>
     let Body::One(one) = &inner.body else {
         return None;
     };
-    let mut short = Short {
-        bytes: ArrayVec::new(),
-    };
+    let mut short = Short::new();
     let kind = one.kind();
     let heads = [1 + value.stamps.mask(), head_of(kind, false, false)];
     if short.put(&heads).is_err() || !put_number(one, &mut short) {
@@ -99,7 +130,7 @@ pub(crate) fn emit_short<S: Sink>(value: &DataValue, out: &mut S) -> bool
     ensures { S.contents out.new ≡ (if result then S.contents out.old ++ data_canon value.now else S.contents out.old) }
 {
     match spelled(value) {
-        Some(short) => out.put(short.bytes.as_slice()).is_ok(),
+        Some(short) => out.put(short.as_slice()).is_ok(),
         None => false,
     }
 }
