@@ -175,6 +175,7 @@ fn shape_len(lengths: &Array<i32>) -> u64
 }
 
 #[cycle(len)]
+#[inline(always)]
 pub(crate) fn variant_len(value: &Variant) -> u64
     ensures length { result ≡ length (canon value.now) }
     ensures bound { result ≤ 2305843284091600896 + 64 * depth value.now }
