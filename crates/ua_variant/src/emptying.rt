@@ -1,4 +1,4 @@
-//! Taking out of plain elements what they own.
+//! Letting go of what values own.
 
 ghost use Rattle.std.specs.Prelude.{◌≤◌};
 ghost use denote.Param.Weighed.{most};
@@ -48,3 +48,7 @@ fn empty(item: &mut Element)
         _ => {}
     }
 }
+
+/// Lets go of a value out of line: else it would be taken apart by its fields, on the way that keeps it as well.
+#[inline(never)]
+pub(crate) fn drop_aside<T: Drop>(_value: T) {}

@@ -9,12 +9,12 @@ ghost use Rattle.ua_variant.specs.Reading.{one_of, leaves, behind_mask, IsNumber
 ghost use Rattle.ua_variant.specs.View.{kind_of};
 
 use crate::element::LAST_NUMBER;
+use crate::emptying::drop_aside;
 use crate::leaf::Leaf;
 use crate::stamps::Stamps;
 use crate::variant::{Body, DataValue, Variant};
 use std::alloc::Global;
 use ua_kind::Kind;
-use ua_value::plumbing::let_go;
 use ua_value::{DoubleBits, FloatBits, ReadFault};
 
 /// The mask and the kind of the DataValue at the front that may be so deep, where its value is a single number or truth
@@ -69,7 +69,7 @@ fn data_of<T: Leaf>(alloc: Global, mask: u8, input: &[u8]) -> Result<(DataValue,
             Ok((DataValue::of(Some(value), stamps), rest))
         }
         Err(fault) => {
-            let_go(value);
+            drop_aside(value);
             Err(fault)
         }
     }

@@ -16,6 +16,7 @@ ghost use Rattle.ua_variant.specs.View.{kind_of, element, items_in, body_of};
 
 use crate::diagnostic::DiagnosticInfo;
 use crate::element::leaf_front;
+use crate::emptying::drop_aside;
 use crate::leaves::each_leaf;
 use crate::number::{number_ahead, number_box, number_data};
 use crate::shape::shape_front;
@@ -262,7 +263,7 @@ fn each_data(
     ensures shorter { IfOk result (λ x. length x.1.now ≤ length input.now) }
     ensures counted { IfOk result (λ x. length x.0.items ≡ count) }
 {
-    let mut items = Vec::with_capacity(alloc, room_for(count, allowance))?;
+    let mut items = Vec::with_capacity(alloc, count as usize)?;
     let mut rest = input;
     for _ in 0..count {
         // As above, `push` would copy the element once more.
@@ -438,7 +439,3 @@ fn valued_data(
         }
     }
 }
-
-/// Lets go of a value out of line: else it would be taken apart by its fields, on the way that keeps it as well.
-#[inline(never)]
-fn drop_aside<T: Drop>(_value: T) {}
