@@ -1,6 +1,6 @@
 //! Reading variants and data values from the front of bytes, to a depth.
 
-ghost use Rattle.std.specs.Prelude.{◌≡◌, ◌≤◌, ◌<◌, ◌^◌, length, map, true, false, Err, IfOk};
+ghost use Rattle.std.specs.Prelude.{◌≡◌, ◌≤◌, ◌<◌, ◌^◌, suc, length, map, true, false, Err, IfOk};
 ghost use Rattle.ua_value.specs.Format.{Gives, input_limit};
 ghost use Rattle.ua_value.specs.Number.{unsigned};
 ghost use Rattle.ua_value.specs.Array.{items_at, CountsMore};
@@ -193,6 +193,7 @@ fn list_within(
 #[inline(always)]
 fn is_outermost(allowance: u8) -> bool
     requires { allowance < deepest }
+    ensures { result ≡ true → suc allowance ≡ deepest }
 {
     allowance + 1 == DEEPEST
 }
@@ -200,7 +201,8 @@ fn is_outermost(allowance: u8) -> bool
 /// For how many of so many elements that hold others, and are at most so deep, room is made at once.
 fn room_for(count: u32, allowance: u8) -> usize
     requires { allowance < deepest }
-    ensures { result ≤ count }
+    ensures count { result ≤ count }
+    ensures inner { suc allowance < deepest → result ≤ 4 }
 {
     let room = if is_outermost(allowance) {
         count
