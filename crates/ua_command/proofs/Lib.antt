@@ -1,4 +1,3 @@
-pub mod Blocks
 pub mod Rows
 pub mod Lines
 pub mod Dropped

@@ -1,6 +1,6 @@
 //! The command `answer`: answers the pieces of a connection.
 
-ghost use Rattle.std.specs.Prelude.{◌≡◌, ◌≤◌, ◌+◌, ◌*◌, ◌++◌, List, ℕ, codes, length, map, min, vec_capacity, IfOk, OnOk, IfErr, Ok, Some, string_bytes};
+ghost use Rattle.std.specs.Prelude.{◌≡◌, ◌≤◌, ◌+◌, ◌*◌, ◌++◌, List, [], ℕ, codes, map, vec_capacity, IfOk, OnOk, IfErr, Ok, Some, string_bytes};
 ghost use Rattle.std.specs.Io.KnownBytes.{Appends};
 ghost use Rattle.hex.specs.Hex.{encode_lower};
 ghost use Rattle.ua_frame.specs.Streams.{pieces_of};
@@ -12,7 +12,7 @@ ghost use Rattle.ua_command.specs.Stop.{IsFileStop, IsInputStop, IsAnswerStop, I
 use crate::input::read_whole;
 use crate::script::{TimedPiece, script_of};
 use crate::settings::{Source, settings_in};
-use crate::stop::{Stop, print_bytes, put_bytes};
+use crate::stop::{Stop, print_bytes};
 use crate::text::Code;
 use std::alloc::{AllocError, Global};
 use std::fmt;
@@ -25,9 +25,6 @@ use ua_value::NoMemory;
 
 /// The id of the channel that a connection of the command has.
 const CHANNEL: u32 = 1;
-
-/// Bytes of a block, which is as much of the reply as is written at once.
-const BLOCK: usize = 32_768;
 
 /// How a connection ended, as the command prints it.
 #[derive(Clone, Copy)]
@@ -80,58 +77,39 @@ fn last_line(alloc: Global, end: End) -> Result<String, NoMemory>
     format!(in alloc; "\nend {}\n", Ending(end))
 }
 
-/// Room for the digits of so many bytes, of a block at most, and for so many bytes behind them.
+/// Room for the digits of so many bytes, and for so many bytes behind them.
 fn room_for(alloc: Global, bytes: usize, behind: usize) -> Result<Vec<u8>, AllocError>
-    ensures { IfOk result (λ room. 2 * min bytes 32768 + behind ≤ vec_capacity room) }
+    ensures empty { IfOk result (λ room. room.items ≡ []) }
+    ensures capacity { IfOk result (λ room. 2 * bytes + behind ≤ vec_capacity room) }
 {
-    let Some(room) = (2 * bytes.min(BLOCK)).checked_add(behind) else {
+    let Some(digits) = bytes.checked_mul(2) else {
+        return Err(AllocError);
+    };
+    let Some(room) = digits.checked_add(behind) else {
         return Err(AllocError);
     };
     Vec::with_capacity(alloc, room)
 }
 
-/// Makes the room hold the digits of a block, and a text behind them. It takes no memory.
-fn fill(room: &mut Vec<u8>, block: &[u8], behind: &[u8])
-    requires { 2 * length block.now + length behind.now ≤ vec_capacity room.old }
-    ensures items { room.new.items ≡ encode_lower block.now ++ behind.now }
-    ensures capacity { vec_capacity room.old ≤ vec_capacity room.new }
+/// The reply in hex, and a text behind it. Room for both is asked for at once, and then no more memory.
+fn lines(alloc: Global, reply: &[u8], behind: &[u8]) -> Result<Vec<u8>, AllocError>
+    ensures { IfOk result (λ text. text.items ≡ encode_lower reply.now ++ behind.now) }
 {
-    room.clear();
-    let _ = encode_onto(room, block);
-    let _ = room.extend_from_slice(behind);
+    let mut text = room_for(alloc, reply.len(), behind.len())?;
+    encode_onto(&mut text, reply)?;
+    text.extend_from_slice(behind)?;
+    Ok(text)
 }
 
-/// Prints the reply in hex and a text behind it from one room: block by block, and the text with the last block.
-fn print_blocks<O: Write>(
-    output: &mut O,
-    room: &mut Vec<u8>,
-    reply: &[u8],
-    behind: &[u8],
-) -> Result<(), Stop>
-    requires { 2 * min (length reply.now) 32768 + length behind.now ≤ vec_capacity room.old }
-    ensures ok { OnOk result (Appends (O.contents output.old) (O.contents output.new) (encode_lower reply.now ++ behind.now)) }
-    ensures err { IfErr result (λ e. e ≡ Stop.File) }
-{
-    let mut rest = reply;
-    'blocks: while rest.len() > BLOCK {
-        let (block, after) = rest.split_at(BLOCK);
-        fill(room, block, &[]);
-        put_bytes(output, room.as_slice())?;
-        rest = after;
-    }
-    fill(room, rest, behind);
-    print_bytes(output, room.as_slice())
-}
-
-/// Prints the reply in hex on one line, and the end on another. All memory is taken before the first write.
+/// Prints the reply in hex on one line, and the end on another: both in one write, before which all memory is taken.
 fn print_answer<O: Write>(alloc: Global, reply: &[u8], end: End, output: &mut O) -> Result<(), Stop>
     ensures ok { OnOk result (Appends (O.contents output.old) (O.contents output.new) (answer_lines reply.now end)) }
     ensures err { IfErr result IsFileStop }
     ensures quiet { IfErr result (λ stop. IsQuiet stop (O.contents output.old) (O.contents output.new)) }
 {
     let last = last_line(alloc, end)?;
-    let mut room = room_for(alloc, reply.len(), last.len())?;
-    print_blocks(output, &mut room, reply, last.as_bytes())
+    let lines = lines(alloc, reply, last.as_bytes())?;
+    print_bytes(output, lines.as_slice())
 }
 
 /// The exit status of an end: 0 where a close came or the input ended behind a whole frame, 1 where a frame was
@@ -178,7 +156,7 @@ fn answer_input<I: Read, O: Write>(
 /// exit status: 0 where a close came or the input ended behind a whole frame, else 1.
 ///
 /// The settings are read first. Nothing is printed before they were understood, the input was read to its end, all of
-/// its lines were understood, the answer is known and the memory that its lines take is there.
+/// its lines were understood and the lines of the answer are made.
 pub fn answer<R: Files + AllocGlobal, I: Read, O: Write>(
     rt: &R,
     source: &Source,

@@ -115,24 +115,15 @@ pub fn print<O: Write>(output: &mut O, text: &str) -> Result<(), Stop>
     print_bytes(output, text.as_bytes())
 }
 
-/// Prints the bytes of a text in the same way.
+/// Prints the bytes of a text in the same way: in one write, and a flush behind it.
 pub fn print_bytes<O: Write>(output: &mut O, text: &[u8]) -> Result<(), Stop>
     ensures ok { OnOk result (Appends (O.contents output.old) (O.contents output.new) text.now) }
     ensures err { IfErr result (λ e. e ≡ Stop.File) }
 {
-    put_bytes(output, text)?;
-    if output.flush().is_err() {
+    if output.write_all(text).is_err() {
         return Err(Stop::File);
     }
-    Ok(())
-}
-
-/// Writes the bytes of a text and does not flush, as more follows. After an error a beginning of it may stand there.
-pub fn put_bytes<O: Write>(output: &mut O, text: &[u8]) -> Result<(), Stop>
-    ensures ok { OnOk result (Appends (O.contents output.old) (O.contents output.new) text.now) }
-    ensures err { IfErr result (λ e. e ≡ Stop.File) }
-{
-    if output.write_all(text).is_err() {
+    if output.flush().is_err() {
         return Err(Stop::File);
     }
     Ok(())
