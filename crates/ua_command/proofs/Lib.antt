@@ -1,6 +1,7 @@
 pub mod Rows
 pub mod Lines
 pub mod Dropped
+pub mod Runs
 pub mod Values
 pub mod Asked
 pub mod Codes

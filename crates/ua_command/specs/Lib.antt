@@ -13,3 +13,4 @@ pub mod Serve
 pub mod Ask
 pub mod Run
 pub mod Parts
+pub mod Search

@@ -12,6 +12,7 @@ mod parts;
 mod row;
 pub mod run;
 mod script;
+mod search;
 mod serve;
 mod settings;
 mod show;

@@ -1,14 +1,14 @@
 //! The lines of standard input: pieces of a stream in hex, each with its moment.
 
-ghost use Rattle.std.specs.Prelude.{◌≡◌, ◌==◌, ◌||◌, ◌<◌, ◌≤◌, ◌∷◌, length, map, filter, position, take, IfOk, OnOk, IfErr, IfSome, MatchResult};
+ghost use Rattle.std.specs.Prelude.{◌≡◌, ◌==◌, ◌<◌, ◌∷◌, length, map, filter, IfOk, OnOk, IfErr, IfSome, MatchResult};
 ghost use Rattle.std.specs.List.{slice_split, list_all};
 ghost use Rattle.std.specs.Char.{is_ascii_digit};
 ghost use Rattle.hex.specs.Hex.{decode_of};
 ghost use Rattle.ua_command.specs.Script.{content_of, content_of_kept, is_kept, of_bytes, moment_in, script_in, lines_of, shown, timed, AddsLine, IsLineFault, IsScriptFault};
 ghost use Rattle.ua_command.specs.declared.script.ScriptFault.TheVariants.{NoMemory as OutOfMemory};
 
+use crate::search::{are_dropped, first_dropped, is_dropped, line_end};
 use hex::FromHexError;
-use memchr::{memchr, memchr2};
 use std::alloc::{AllocError, AllocFailed, Global};
 
 /// A moment, and the bytes that came then.
@@ -89,29 +89,11 @@ fn kept(alloc: Global, line: &[u8]) -> Result<Vec<u8>, AllocError>
     let mut all = Vec::new(alloc);
     'bytes: for byte in line {
         let byte = *byte;
-        if !(byte == b' ' || byte == b'\r') {
+        if !is_dropped(byte) {
             all.push(byte)?;
         }
     }
     Ok(all)
-}
-
-/// Where the first space or carriage return stands, or the length where there is none: up to there all is kept.
-fn first_dropped(line: &[u8]) -> usize
-    ensures within { result ≤ length line.now }
-    ensures kept { filter is_kept (take result line.now) ≡ take result line.now }
-{
-    match memchr2(b' ', b'\r', line) {
-        Some(n) => n,
-        None => line.len(),
-    }
-}
-
-/// Whether nothing of it is kept.
-fn are_dropped(line: &[u8]) -> bool
-    ensures { result ≡ list_all (λ c. c == 32 || c == 13) line.now }
-{
-    line.iter().all(|c| *c == b' ' || *c == b'\r')
 }
 
 fn bytes_of(alloc: Global, digits: &[u8]) -> Result<Line, AllocError>
@@ -139,22 +121,20 @@ fn line_of_kept(alloc: Global, line: &[u8]) -> Result<Line, AllocError>
     }
 }
 
-/// What a line says. One that has no space and no carriage return, or has them at its end alone, is read where it lies.
+/// What a line says. One of dropped bytes alone is judged first. One that has none, or has them at its end alone, is
+/// read where it lies.
 fn line_of(alloc: Global, line: &[u8]) -> Result<Line, AllocError>
     ensures { IfOk result (λ l. shown l ≡ content_of line.now) }
 {
+    if are_dropped(line) {
+        return Ok(Line::Skipped);
+    }
     let (front, rest) = line.split_at(first_dropped(line));
     if are_dropped(rest) {
         return line_of_kept(alloc, front);
     }
     let line = kept(alloc, line)?;
     line_of_kept(alloc, line.as_slice())
-}
-
-fn line_end(text: &[u8]) -> Option<usize>
-    ensures { result ≡ position (λ c. c == 10) text.now }
-{
-    memchr(b'\n', text)
 }
 
 /// The first line of a text, and what follows its line end, where it has one.
