@@ -2,6 +2,8 @@
 
 use crate::answering::{HELLO, NOTHING};
 use crate::runs::{Page, Signs, ends_so, expect_failed_write};
+use std::io;
+use std::io::Write;
 use std::net::Net;
 use std::rt::{Clock, Files};
 use ua_command::run::run;
@@ -44,4 +46,40 @@ fn is_untold<R: Files + Net + Clock + AllocGlobal>(rt: &R, words: &[&str], statu
     let mut told = Page::new(3);
     let came = run(rt, words, &mut input, &mut printed, &mut told);
     came == status && told.len == 3
+}
+
+/// A writer that takes all, of which no flush is done.
+#[derive(Drop)]
+struct Unflushed {
+    written: usize,
+}
+
+impl Write for Unflushed {
+    fn write(&mut self, buf: &[u8]) -> io::Result<usize> {
+        self.written = self.written.saturating_add(buf.len());
+        Ok(buf.len())
+    }
+
+    fn flush(&mut self) -> io::Result<()> {
+        Err(io::Error::from(io::ErrorKind::Other))
+    }
+}
+
+/// Whether a command whose text is written, and whose flush fails, ends as it does where a write fails.
+fn is_stopped_unflushed<R: Files + Net + Clock + AllocGlobal>(rt: &R, words: &[&str]) -> bool {
+    let mut input = HELLO.as_bytes();
+    let mut printed = Unflushed { written: 0 };
+    let mut told = Page::new(4096);
+    let status = run(rt, words, &mut input, &mut printed, &mut told);
+    status == 3 && printed.written > 0 && told.text() == b"file\n".as_slice()
+}
+
+#[test]
+fn tells_failed_flushes(rt: HostRuntime) {
+    assert!(rt; is_stopped_unflushed(&rt, &["answer", "default"]));
+    assert!(rt; is_stopped_unflushed(&rt, &["value", "Boolean", "FF"]));
+    assert!(rt; is_stopped_unflushed(&rt, &["value", "Boolean", ""]));
+    assert!(rt; is_stopped_unflushed(&rt, &["show", "-"]));
+    assert!(rt; is_stopped_unflushed(&rt, &["--help"]));
+    assert!(rt; is_stopped_unflushed(&rt, &["--version"]));
 }

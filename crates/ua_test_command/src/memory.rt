@@ -82,7 +82,7 @@ fn prints_into_memory(rt: &HostRuntime) -> bool {
     }
 }
 
-/// A writer over memory whose growth is refused is a failed write, with nothing written of a reply of one block.
+/// A writer over memory whose growth is refused is a failed write, with nothing written.
 #[test]
 fn prints_into_memory_or_no_memory(rt: HostRuntime) {
     assert!(rt; prints_into_memory(&rt));
