@@ -164,6 +164,11 @@ pub fn put_part(out: &mut Vec<u8>, last: bool, n: u32, body: &[u8]) -> Result<()
     Ok(())
 }
 
+/// The header of a GetEndpoints request.
+pub fn put_endpoints_head(body: &mut Vec<u8>) -> Result<(), Failed> {
+    put_request_header(body, 428)
+}
+
 /// The header of a request of a service that no discovery server offers.
 pub fn put_other_head(body: &mut Vec<u8>) -> Result<(), Failed> {
     put_request_header(body, 673)

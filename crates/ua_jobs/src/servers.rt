@@ -4,8 +4,9 @@ use crate::connections::{Ticks, ask_and_close, begin, put_pieces};
 use crate::digest::{Digest, Failed, Work, lend};
 use crate::documents::{Shape, drawn_settings};
 use crate::draw::{Draw, Pool, digit};
-use crate::frames::{Caller, put_number, put_part, put_text};
+use crate::frames::{Caller, put_endpoints_head, put_number, put_part, put_text};
 use std::alloc::Global;
+use ua_conn::End;
 use ua_disco::Settings;
 use ua_link::{MemoryLink, serve_connection};
 
@@ -18,33 +19,54 @@ const TURNS: u32 = 65_536;
 /// Bytes of a part of a long request.
 const PART: usize = 60_000;
 
-/// Serves one connection, whose bytes come in pieces.
-fn served(alloc: Global, settings: &Settings, pieces: &[&[u8]], now: i64, digest: &mut Digest) {
+/// A number for each end.
+fn number_of(end: End) -> u64 {
+    match end {
+        End::Closed => 1,
+        End::InputEnded => 2,
+        End::Truncated => 3,
+        End::LinkFailed => 4,
+        End::TurnsSpent => 5,
+        End::NoMemory => 6,
+        End::Refused(status) => 4_294_967_296 + u64::from(status),
+    }
+}
+
+/// Serves one connection, whose bytes come in pieces. How it ended.
+fn served(
+    alloc: Global,
+    settings: &Settings,
+    pieces: &[&[u8]],
+    now: i64,
+    digest: &mut Digest,
+) -> u64 {
     let mut link = MemoryLink::new(alloc, pieces, 65_536);
     let mut clock = Ticks(now);
     let report = serve_connection(alloc, settings, 1, &mut link, &mut clock, TURNS);
     digest.add_bytes(link.sent());
     digest.add((report.written % 4_294_967_296) as u64);
     digest.add(report.cuts.len() as u64);
+    let end = number_of(report.end);
+    digest.add(end);
+    end
 }
 
-/// Serves one connection, whose bytes come in pieces of so many.
+/// Serves one connection, whose bytes come in pieces of so many. It fails where the connection ends otherwise than it
+/// should: after a frame that was refused, what comes behind is not looked at.
 fn connection(
     alloc: Global,
     settings: &Settings,
     bytes: &[u8],
     piece: usize,
+    end: End,
     draw: &mut Draw,
     digest: &mut Digest,
 ) -> Result<(), Failed> {
     let mut pieces = Vec::new(alloc);
     let now = FIRST.wrapping_add(i64::from(draw.half()));
     match put_pieces(&mut pieces, bytes, piece) {
-        Ok(()) => {
-            served(alloc, settings, &pieces, now, digest);
-            Ok(())
-        }
-        Err(Failed) => Err(Failed),
+        Ok(()) if served(alloc, settings, &pieces, now, digest) == number_of(end) => Ok(()),
+        _ => Err(Failed),
     }
 }
 
@@ -83,21 +105,22 @@ fn connections(
         bytes.clear();
         begin(bytes, caller)?;
         ask_and_close(bytes, caller, draw, comers.questions)?;
-        connection(alloc, settings, bytes, comers.piece, draw, digest)?;
+        connection(
+            alloc,
+            settings,
+            bytes,
+            comers.piece,
+            End::Closed,
+            draw,
+            digest,
+        )?;
     }
     Ok(())
 }
 
 /// The body of a GetEndpoints request with so many locales, of which the last one is that of a name.
-fn put_long_body(
-    body: &mut Vec<u8>,
-    caller: &Caller,
-    draw: &mut Draw,
-    locales: u32,
-) -> Result<(), Failed> {
-    let question = caller.question(1);
-    let (_, head) = question.split_at(question.len().min(24));
-    body.extend_from_slice(&head[..head.len().min(32)])?;
+fn put_long_body(body: &mut Vec<u8>, draw: &mut Draw, locales: u32) -> Result<(), Failed> {
+    put_endpoints_head(body)?;
     put_text(body, b"opc.tcp://localhost:4840")?;
     put_number(body, locales)?;
     for _ in 1..locales {
@@ -126,7 +149,7 @@ fn put_long(
 ) -> Result<(), Failed> {
     bytes.clear();
     begin(bytes, caller)?;
-    put_long_body(body, caller, draw, locales)?;
+    put_long_body(body, draw, locales)?;
     let mut rest = body.len();
     let mut n = 2u32;
     for part in body.chunks(PART) {
@@ -162,7 +185,10 @@ impl<'a> Work<Caller> for Coming<'a> {
         }
         let mut body = Vec::new(alloc);
         match put_long(&mut bytes, &mut body, caller, draw, comers.locales) {
-            Ok(()) => connection(alloc, settings, &bytes, comers.piece, draw, digest),
+            Ok(()) => {
+                let end = End::InputEnded;
+                connection(alloc, settings, &bytes, comers.piece, end, draw, digest)
+            }
             Err(Failed) => Err(Failed),
         }
     }
