@@ -1,17 +1,15 @@
 //! A commissioning tool asks servers, and reads their answers.
 
+use crate::answers::Adding;
 use crate::digest::{Digest, Failed, Work, lend};
 use crate::documents::{Shape, drawn_settings};
 use crate::draw::{Draw, Pool};
 use crate::frames::drawn_url;
 use crate::servers::FIRST;
 use std::alloc::Global;
-use ua_conn::{Answer, AnswerResult, Client, ClientConfig, Fed, Server};
+use ua_conn::{Client, ClientConfig, Server};
 use ua_disco::Settings;
-use ua_service::{
-    ApplicationDescription, EndpointDescription, FindServersRequest, GetEndpointsRequest, Request,
-    Response, request_header,
-};
+use ua_service::{FindServersRequest, GetEndpointsRequest, Request, request_header};
 use ua_value::plumbing::let_go;
 use ua_value::{Array, DateTime, UaString};
 
@@ -53,106 +51,30 @@ fn request_at(url: UaString, handle: u32, endpoints: bool) -> Request {
     }
 }
 
-fn add_text(digest: &mut Digest, text: &UaString) {
-    digest.add_bytes(text.get().unwrap_or("").as_bytes());
-}
-
-/// A number as one without a sign.
-fn number_of(n: i32) -> u64 {
-    u64::from_le_bytes(i64::from(n).to_le_bytes())
-}
-
-fn add_application(digest: &mut Digest, application: &ApplicationDescription) {
-    add_text(digest, &application.application_uri);
-    add_text(digest, &application.product_uri);
-    add_text(digest, &application.application_name.locale);
-    add_text(digest, &application.application_name.text);
-    digest.add(number_of(application.application_type));
-    add_text(digest, &application.gateway_server_uri);
-    add_text(digest, &application.discovery_profile_uri);
-    for url in application.discovery_urls.get().unwrap_or(&[]) {
-        add_text(digest, url);
-    }
-}
-
-fn add_endpoint(digest: &mut Digest, endpoint: &EndpointDescription) {
-    add_text(digest, &endpoint.endpoint_url);
-    add_application(digest, &endpoint.server);
-    digest.add_bytes(endpoint.server_certificate.get().unwrap_or(&[]));
-    digest.add(number_of(endpoint.security_mode));
-    add_text(digest, &endpoint.security_policy_uri);
-    for token in endpoint.user_identity_tokens.get().unwrap_or(&[]) {
-        add_text(digest, &token.policy_id);
-        digest.add(number_of(token.token_type));
-        add_text(digest, &token.issued_token_type);
-        add_text(digest, &token.issuer_endpoint_url);
-        add_text(digest, &token.security_policy_uri);
-    }
-    add_text(digest, &endpoint.transport_profile_uri);
-    digest.add(u64::from(endpoint.security_level));
-}
-
-fn add_response(digest: &mut Digest, response: &Response) {
-    match response {
-        Response::FindServers(found) => {
-            for server in found.servers.get().unwrap_or(&[]) {
-                add_application(digest, server);
-            }
-        }
-        Response::GetEndpoints(found) => {
-            for endpoint in found.endpoints.get().unwrap_or(&[]) {
-                add_endpoint(digest, endpoint);
-            }
-        }
-        Response::Fault(_) => digest.add(1),
-    }
-}
-
-fn add_answer(digest: &mut Digest, answer: &Answer) {
-    digest.add(u64::from(answer.id));
-    match &answer.result {
-        AnswerResult::Response(response) => add_response(digest, response),
-        AnswerResult::Aborted(status) => digest.add(u64::from(*status)),
-    }
-}
-
-/// Adds what a piece brought.
-#[derive(Drop)]
-struct Adding<'a> {
-    digest: &'a mut Digest,
-}
-
-impl<'a> Work<Vec<Answer>> for Adding<'a> {
-    fn run(self, answers: &mut Vec<Answer>) -> Result<(), Failed> {
-        for answer in answers.as_slice() {
-            add_answer(&mut *self.digest, answer);
-        }
-        Ok(())
-    }
-}
-
-impl<'a> Work<Fed> for Adding<'a> {
-    fn run(self, fed: &mut Fed) -> Result<(), Failed> {
-        self.digest.add(fed.requests.len() as u64);
-        Ok(())
-    }
-}
-
-/// How both ends go on: the moment, and bytes of a piece of what the server says.
+/// How both ends go on: the moment, bytes of a piece of what the server says, and whether the whole is added.
 #[derive(Clone, Copy)]
 struct Pace {
     now: i64,
     piece: usize,
+    whole: bool,
 }
 
 /// Feeds the client what it is answered, in pieces, and adds the answers.
-fn hear(client: &mut Client, pace: &Pace, down: &[u8], digest: &mut Digest) -> Result<(), Failed> {
+fn hear(
+    alloc: Global,
+    client: &mut Client,
+    pace: &Pace,
+    down: &[u8],
+    digest: &mut Digest,
+) -> Result<(), Failed> {
     for piece in down.chunks(pace.piece.max(1)) {
         let answers = client.feed(pace.now, piece);
         lend(
             answers,
             Adding {
+                alloc,
                 digest: &mut *digest,
+                bodies: pace.whole,
             },
         )?;
     }
@@ -161,6 +83,7 @@ fn hear(client: &mut Client, pace: &Pace, down: &[u8], digest: &mut Digest) -> R
 
 /// Delivers what the client says at once, and what it is answered in pieces.
 fn deliver(
+    alloc: Global,
     client: &mut Client,
     server: &mut Server,
     pace: &Pace,
@@ -170,15 +93,21 @@ fn deliver(
     down.clear();
     let up = client.output();
     let n = up.len();
+    digest.add_bytes(up);
     let fed = server.feed(pace.now, up, down);
     lend(
         fed,
         Adding {
+            alloc,
             digest: &mut *digest,
+            bodies: pace.whole,
         },
     )?;
     client.sent(n);
-    hear(client, pace, down, digest)
+    if pace.whole {
+        digest.add_bytes(down);
+    }
+    hear(alloc, client, pace, down, digest)
 }
 
 /// That a request was asked.
@@ -207,14 +136,15 @@ fn ask_once(
     }
 }
 
-/// What a tool does on one connection: how many rounds, each of so many questions, with a renewal before each fourth; and
-/// bytes of a piece.
+/// What a tool does on one connection: how many rounds, each of so many questions, with a renewal before each fourth; bytes
+/// of a piece; and whether the whole of what comes of it is added.
 #[derive(Clone, Copy)]
 struct Talk {
     rounds: u32,
     questions: u32,
     piece: usize,
     endpoints: bool,
+    whole: bool,
 }
 
 /// A talk over both ends.
@@ -231,18 +161,19 @@ fn talk_on(t: &mut Talking, server: &mut Server, down: &mut Vec<u8>) -> Result<(
     let mut pace = Pace {
         now: FIRST.wrapping_add(i64::from(t.draw.half())),
         piece: t.talk.piece,
+        whole: t.talk.whole,
     };
-    deliver(t.client, server, &pace, down, t.digest)?;
-    deliver(t.client, server, &pace, down, t.digest)?;
+    deliver(t.alloc, t.client, server, &pace, down, t.digest)?;
+    deliver(t.alloc, t.client, server, &pace, down, t.digest)?;
     for n in 0..t.talk.rounds {
         pace.now = pace.now.wrapping_add(10_000);
         if n % 4 == 3 && t.client.renew(pace.now).is_ok() {
-            deliver(t.client, server, &pace, down, t.digest)?;
+            deliver(t.alloc, t.client, server, &pace, down, t.digest)?;
         }
         for _ in 0..t.talk.questions {
             ask_once(t.alloc, t.client, pace.now, t.draw, t.talk.endpoints)?;
         }
-        deliver(t.client, server, &pace, down, t.digest)?;
+        deliver(t.alloc, t.client, server, &pace, down, t.digest)?;
     }
     Ok(())
 }
@@ -340,9 +271,13 @@ fn call_rounds(
     draw: &mut Draw,
     digest: &mut Digest,
 ) -> Result<(), Failed> {
-    for _ in 0..rounds {
+    for n in 0..rounds {
         for talk in talks {
-            call(alloc, settings, talk, draw, digest)?;
+            let talk = Talk {
+                whole: n == 0,
+                ..*talk
+            };
+            call(alloc, settings, &talk, draw, digest)?;
         }
     }
     Ok(())
@@ -381,24 +316,28 @@ const FEW: [Talk; 4] = [
         questions: 64,
         piece: 1_460,
         endpoints: false,
+        whole: false,
     },
     Talk {
         rounds: 1,
         questions: 16,
         piece: 1,
         endpoints: false,
+        whole: false,
     },
     Talk {
         rounds: 8,
         questions: 8,
         piece: 1_460,
         endpoints: true,
+        whole: false,
     },
     Talk {
         rounds: 1,
         questions: 2,
         piece: 1,
         endpoints: true,
+        whole: false,
     },
 ];
 
@@ -407,9 +346,11 @@ const MANY: [Talk; 1] = [Talk {
     questions: 1,
     piece: 4_096,
     endpoints: true,
+    whole: false,
 }];
 
-/// So many times conversations of each kind, with servers of 20 and 300 endpoints.
+/// So many times conversations of each kind, with servers of 20 and 300 endpoints. Of those of the first round the whole is
+/// added.
 pub fn ask(
     alloc: Global,
     pool: &Pool,

@@ -22,10 +22,19 @@ impl<T: Drop> From<AllocFailed<T>> for Failed {
 #[derive(Clone, Copy)]
 pub struct Digest(u64);
 
+/// An odd number.
+const FACTOR: u64 = 0x9E37_79B9_7F4A_7C15;
+
+/// The number that follows from a number and one more. Each of the two is had back from it and the other one, and it
+/// matters which came first, however far they stand apart: the product carries what differs into other bits.
+fn mixed(number: u64, more: u64) -> u64 {
+    (number ^ more).wrapping_mul(FACTOR).rotate_left(29)
+}
+
 impl Digest {
-    /// The digest of nothing, which is 0.
+    /// The digest of nothing.
     pub fn new() -> Digest {
-        Digest(0)
+        Digest(FACTOR)
     }
 
     /// Its number.
@@ -35,9 +44,17 @@ impl Digest {
 
     /// Adds a number.
     pub fn add(&mut self, n: u64) {
-        self.0 = (self.0 ^ n)
-            .wrapping_mul(0x9E37_79B9_7F4A_7C15)
-            .rotate_left(29);
+        self.0 = mixed(self.0, n);
+    }
+
+    /// Adds a number with a sign.
+    pub fn add_signed(&mut self, n: i64) {
+        self.add(u64::from_le_bytes(n.to_le_bytes()));
+    }
+
+    /// Adds that there is nothing, in place of bytes, of how many items there are or of an end.
+    pub fn add_none(&mut self) {
+        self.add(u64::MAX);
     }
 
     /// Adds the bytes, thirty-two at a time in four numbers of their own, and how many they are. It costs little beside
@@ -47,10 +64,10 @@ impl Digest {
         let (fours, few) = words.as_chunks::<4>();
         let (mut a, mut b, mut c, mut d) = (1u64, 2u64, 3u64, 4u64);
         for [e, f, g, h] in fours {
-            a = a.rotate_left(5).wrapping_add(u64::from_le_bytes(*e));
-            b = b.rotate_left(5).wrapping_add(u64::from_le_bytes(*f));
-            c = c.rotate_left(5).wrapping_add(u64::from_le_bytes(*g));
-            d = d.rotate_left(5).wrapping_add(u64::from_le_bytes(*h));
+            a = mixed(a, u64::from_le_bytes(*e));
+            b = mixed(b, u64::from_le_bytes(*f));
+            c = mixed(c, u64::from_le_bytes(*g));
+            d = mixed(d, u64::from_le_bytes(*h));
         }
         for number in [a, b, c, d] {
             self.add(number);

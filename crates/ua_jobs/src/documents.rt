@@ -1,7 +1,9 @@
 //! Whoever starts a server reads its settings.
 
+use crate::answers::add_text;
 use crate::digest::{Digest, Failed};
 use crate::draw::{Draw, Pool};
+use crate::offers::{Offers, add_offers};
 use std::alloc::Global;
 use ua_disco::{Settings, SettingsFault};
 
@@ -18,14 +20,19 @@ pub struct Shape<'a> {
     pub last: &'a str,
 }
 
+/// The language of the name of that number.
+pub fn put_language(text: &mut String, n: u32) -> Result<(), Failed> {
+    let language = LANGUAGES[n as usize % 10];
+    write!(text, "{language}-{n}")?;
+    Ok(())
+}
+
 fn put_names(text: &mut String, draw: &mut Draw, names: u32) -> Result<(), Failed> {
     for n in 0..names {
-        let language = LANGUAGES[n as usize % 10];
         let number = draw.half();
-        writeln!(
-            text,
-            "[[application.names]]\nlocale = \"{language}-{n}\"\ntext = \"Press {number}\""
-        )?;
+        text.push_str("[[application.names]]\nlocale = \"")?;
+        put_language(text, n)?;
+        writeln!(text, "\"\ntext = \"Press {number}\"")?;
     }
     Ok(())
 }
@@ -134,41 +141,52 @@ fn parts_of(fault: &SettingsFault) -> (u64, &str) {
     }
 }
 
-/// What stands for a result that is read or refused.
+/// What comes of a document with so many names, where it is read or refused.
 trait Told {
-    fn tell(&self, digest: &mut Digest);
+    fn tell(&self, names: u32, offers: &mut Offers) -> Result<(), Failed>;
 }
 
 impl Told for Settings {
-    fn tell(&self, digest: &mut Digest) {
-        digest.add_bytes(self.first_uri().get().unwrap_or("").as_bytes());
-        let limits = self.limits();
-        for n in [
-            limits.receive,
-            limits.send,
-            limits.max_message,
-            limits.max_chunks,
-        ] {
-            digest.add(u64::from(n));
-        }
-        if let Some(url) = self.first_url() {
-            digest.add_bytes(url.get().unwrap_or("").as_bytes());
-        }
+    fn tell(&self, names: u32, offers: &mut Offers) -> Result<(), Failed> {
+        add_front(self, offers.digest);
+        add_offers(offers, self, names)
+    }
+}
+
+fn add_front(settings: &Settings, digest: &mut Digest) {
+    add_text(digest, settings.first_uri());
+    let limits = settings.limits();
+    for n in [
+        limits.receive,
+        limits.send,
+        limits.max_message,
+        limits.max_chunks,
+    ] {
+        digest.add(u64::from(n));
+    }
+    match settings.first_url() {
+        Some(url) => add_text(digest, url),
+        None => digest.add_none(),
     }
 }
 
 impl Told for SettingsFault {
-    fn tell(&self, digest: &mut Digest) {
+    fn tell(&self, _names: u32, offers: &mut Offers) -> Result<(), Failed> {
         let (number, path) = parts_of(self);
-        digest.add(number);
-        digest.add_bytes(path.as_bytes());
+        offers.digest.add(number);
+        offers.digest.add_bytes(path.as_bytes());
+        Ok(())
     }
 }
 
-fn tell<T: Told + Drop, E: Told + Drop>(read: Result<T, E>, digest: &mut Digest) {
+fn tell<T: Told + Drop, E: Told + Drop>(
+    read: Result<T, E>,
+    names: u32,
+    offers: &mut Offers,
+) -> Result<(), Failed> {
     match read {
-        Ok(value) => value.tell(digest),
-        Err(fault) => fault.tell(digest),
+        Ok(value) => value.tell(names, offers),
+        Err(fault) => fault.tell(names, offers),
     }
 }
 
@@ -212,13 +230,43 @@ const SHAPES: [(u32, Shape); 4] = [
     ),
 ];
 
-/// So many times documents of each shape.
-pub fn settings(alloc: Global, pool: &Pool, draw: &mut Draw, rounds: u32, digest: &mut Digest) {
-    for _ in 0..rounds {
-        for (times, shape) in &SHAPES {
-            for _ in 0..*times {
-                tell(drawn_settings(alloc, draw, pool, shape), digest);
-            }
+/// Documents of each shape.
+fn round(offers: &mut Offers, pool: &Pool, draw: &mut Draw) -> Result<(), Failed> {
+    offers.place = draw.half();
+    for (times, shape) in &SHAPES {
+        for _ in 0..*times {
+            let read = drawn_settings(offers.alloc, draw, pool, shape);
+            tell(read, shape.names, offers)?;
         }
     }
+    Ok(())
+}
+
+fn rounds_of(offers: &mut Offers, pool: &Pool, draw: &mut Draw, rounds: u32) -> Result<(), Failed> {
+    for n in 0..rounds {
+        offers.whole = n == 0;
+        round(offers, pool, draw)?;
+    }
+    Ok(())
+}
+
+/// So many times documents of each shape. Of those of the first round the whole is added.
+pub fn settings(
+    alloc: Global,
+    pool: &Pool,
+    draw: &mut Draw,
+    rounds: u32,
+    digest: &mut Digest,
+) -> Result<(), Failed> {
+    let mut body = Vec::new(alloc);
+    let mut out = Vec::new(alloc);
+    let mut offers = Offers {
+        alloc,
+        body: &mut body,
+        out: &mut out,
+        digest,
+        whole: false,
+        place: 0,
+    };
+    rounds_of(&mut offers, pool, draw, rounds)
 }

@@ -153,6 +153,20 @@ fn put_question(
     }
 }
 
+/// The body of FindServers, or of GetEndpoints where that is said, in one language or, where that is empty, in none.
+pub fn put_query(out: &mut Vec<u8>, endpoints: bool, language: &[u8]) -> Result<(), Failed> {
+    put_request_header(out, if endpoints { 428 } else { 422 })?;
+    put_text(out, b"opc.tcp://localhost:4840")?;
+    if language.is_empty() {
+        out.extend_from_slice(&NULL)?;
+    } else {
+        put_number(out, 1)?;
+        put_text(out, language)?;
+    }
+    out.extend_from_slice(&NULL)?;
+    Ok(())
+}
+
 /// A part of a request of another service: C, or F where it is the last.
 pub fn put_part(out: &mut Vec<u8>, last: bool, n: u32, body: &[u8]) -> Result<(), Failed> {
     let what = if last { b"MSGF" } else { b"MSGC" };

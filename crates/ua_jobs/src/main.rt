@@ -2,6 +2,7 @@
 //! came of them: `ua_jobs JOB NUMBER ROUNDS`.
 #![tactic(auto)]
 
+mod answers;
 mod captures;
 mod clients;
 mod connections;
@@ -11,6 +12,7 @@ mod draw;
 mod frames;
 mod histories;
 mod lines;
+mod offers;
 mod replays;
 mod servers;
 mod values;
@@ -70,10 +72,7 @@ fn done<R: Files + Net + Clock + AllocGlobal>(
         "ask" => clients::ask(rt.alloc(), pool, draw, rounds, digest),
         "history" => histories::history(rt.alloc(), pool, draw, rounds, digest),
         "show" => captures::show(rt, pool, draw, rounds, digest),
-        "settings" => {
-            documents::settings(rt.alloc(), pool, draw, rounds, digest);
-            Ok(())
-        }
+        "settings" => documents::settings(rt.alloc(), pool, draw, rounds, digest),
         _ => Err(Failed),
     }
 }

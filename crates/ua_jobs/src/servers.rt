@@ -1,5 +1,6 @@
 //! A discovery server, and the clients that come to it: a connection each.
 
+use crate::answers::number_of;
 use crate::connections::{Ticks, ask_and_close, begin, put_pieces};
 use crate::digest::{Digest, Failed, Work, lend};
 use crate::documents::{Shape, drawn_settings};
@@ -8,7 +9,7 @@ use crate::frames::{Caller, put_endpoints_head, put_number, put_part, put_text};
 use std::alloc::Global;
 use ua_conn::End;
 use ua_disco::Settings;
-use ua_link::{MemoryLink, serve_connection};
+use ua_link::{MemoryLink, Report, serve_connection};
 
 /// A moment of 2026, in ticks of 100 ns since 1601.
 pub const FIRST: i64 = 134_120_736_000_000_000;
@@ -19,20 +20,19 @@ const TURNS: u32 = 65_536;
 /// Bytes of a part of a long request.
 const PART: usize = 60_000;
 
-/// A number for each end.
-fn number_of(end: End) -> u64 {
-    match end {
-        End::Closed => 1,
-        End::InputEnded => 2,
-        End::Truncated => 3,
-        End::LinkFailed => 4,
-        End::TurnsSpent => 5,
-        End::NoMemory => 6,
-        End::Refused(status) => 4_294_967_296 + u64::from(status),
+/// Adds how a connection ended, what went out, and each read.
+fn add_report(report: &Report, digest: &mut Digest) {
+    digest.add(number_of(report.end));
+    digest.add((report.written % 4_294_967_296) as u64);
+    digest.add((report.written / 4_294_967_296 % 4_294_967_296) as u64);
+    digest.add(report.cuts.len() as u64);
+    for (moment, bytes) in report.cuts.as_slice() {
+        digest.add_signed(*moment);
+        digest.add(*bytes as u64);
     }
 }
 
-/// Serves one connection, whose bytes come in pieces. How it ended.
+/// Serves one connection, whose bytes come in pieces. A number for its end.
 fn served(
     alloc: Global,
     settings: &Settings,
@@ -44,11 +44,8 @@ fn served(
     let mut clock = Ticks(now);
     let report = serve_connection(alloc, settings, 1, &mut link, &mut clock, TURNS);
     digest.add_bytes(link.sent());
-    digest.add((report.written % 4_294_967_296) as u64);
-    digest.add(report.cuts.len() as u64);
-    let end = number_of(report.end);
-    digest.add(end);
-    end
+    add_report(&report, digest);
+    number_of(report.end)
 }
 
 /// Serves one connection, whose bytes come in pieces of so many. It fails where the connection ends otherwise than it
