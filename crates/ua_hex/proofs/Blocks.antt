@@ -170,10 +170,6 @@ read_cut_pair digits rest pair after bytes high low cut two eh el hh hl so =
     let next = read_pair digits after bytes (slice_index pair 0) (slice_index pair 1) (rw (← eh) hh) (rw (← el) hl) there in
     rw (eh, el) next
 
--- what a choice gives where its test is true
-pub when_true : {X : Type 0} (b : Bool) (now taken left : X) → b ≡ true → now ≡ cond b taken left → now ≡ taken
-when_true b now taken left t e = e ∙ ap (λ (c : Bool). cond c taken left) t
-
 -- a block more is written
 pub written_block : (text rest block after all : List ℕ) → rest ≡ block ++ after → text ++ encode_lower rest ≡ all
     → (text ++ encode_lower block) ++ encode_lower after ≡ all
