@@ -126,7 +126,7 @@ fn is_refused_behind_one<T: Wire>(alloc: Global, item: Item, count: u32, len: us
     }
 }
 
-/// Sixteen KiB could hold 819 user identities of 136 bytes, 655 applications of 184 and 327 endpoints of 408.
+/// Sixteen KiB could hold 819 user identities of 136 bytes, 655 applications of 232 and 327 endpoints of 408.
 #[test]
 fn a_great_count_is_refused_behind_one_item_within_64_kib(rt: HostRuntime) {
     let alloc = rt.alloc();
