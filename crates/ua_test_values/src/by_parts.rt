@@ -101,12 +101,20 @@ impl<L: Level + Drop> Level for Above<L> {
     }
 }
 
+/// How many follow.
+fn put_count<S: Sink>(count: usize, out: &mut S) -> Result<(), NoMemory> {
+    match u32::try_from(count) {
+        Ok(count) => out.put(&count.to_le_bytes()),
+        Err(_) => Err(AllocError),
+    }
+}
+
 /// A count and the elements.
 fn put_list<L: Level, S: Sink>(items: Option<&[Element]>, out: &mut S) -> Result<(), NoMemory> {
     match items {
         None => out.put(&[255, 255, 255, 255]),
         Some(items) => {
-            out.put(&(items.len() as u32).to_le_bytes())?;
+            put_count(items.len(), out)?;
             for item in items {
                 L::put(item, out)?;
             }
@@ -120,7 +128,7 @@ fn put_shape<S: Sink>(lengths: Option<&[i32]>, out: &mut S) -> Result<(), NoMemo
     match lengths {
         None => Ok(()),
         Some(lengths) => {
-            out.put(&(lengths.len() as u32).to_le_bytes())?;
+            put_count(lengths.len(), out)?;
             i32::emit_items(lengths, out)
         }
     }
