@@ -4,6 +4,7 @@ pub mod Script
 pub mod Settings
 pub mod Stop
 pub mod Printed
+pub mod Escape
 pub mod FrameLine
 pub mod Capture
 pub mod End

@@ -1,6 +1,6 @@
 //! A message whose parts lie apart: how long it is, and the encoding id that it begins with.
 
-ghost use Rattle.std.specs.Prelude.{◌≡◌, ℕ, List, ◌++◌, length, IfOk, IfSome, IsTrue, OnOk, None, Some, string_bytes};
+ghost use Rattle.std.specs.Prelude.{◌≡◌, ◌≤◌, ℕ, List, ◌++◌, length, IfOk, IfSome, IsTrue, OnOk, None, Some, string_bytes};
 ghost use Rattle.ua_command.specs.FrameLine.{type_in, message_line};
 ghost use Rattle.ua_command.specs.Parts.{joined};
 
@@ -64,11 +64,9 @@ fn has_no_type(bytes: &[u8]) -> bool
 /// The encoding id that the joined parts, of so many bytes, begin with, if any. They are joined only where the first does
 /// not tell.
 fn type_of_parts(alloc: Global, parts: &[&[u8]], size: usize) -> Result<Option<NodeId>, NoMemory>
+    requires { 1 ≤ length parts.now }
     ensures { IfOk result (λ id. id ≡ type_in (joined parts.now)) }
 {
-    if parts.is_empty() {
-        return type_of(alloc, &[]);
-    }
     if has_no_type(parts[0]) {
         return Ok(None);
     }
@@ -86,6 +84,7 @@ pub fn add_parts(
     request_id: u32,
     parts: &[&[u8]],
 ) -> Result<(), NoMemory>
+    requires { 1 ≤ length parts.now }
     ensures { OnOk result (string_bytes text.new ≡ string_bytes text.old ++ message_line request_id (joined parts.now)) }
 {
     let size = size_of(parts)?;

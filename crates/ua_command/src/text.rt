@@ -1,8 +1,9 @@
 //! Texts, node ids and statuses as the command prints them.
 
-ghost use Rattle.std.specs.Prelude.{◌≡◌, ◌<◌, ◌≤◌, ◌∷◌, ◌++◌, [], length, take, IsAscii, IsTrue, false, OnOk, Some, string_bytes};
+ghost use Rattle.std.specs.Prelude.{◌≡◌, ◌<◌, ◌≤◌, ◌∷◌, ◌++◌, [], length, slice_index, take, IsAscii, IsTrue, false, OnOk, Some, string_bytes};
 ghost use Rattle.std.specs.List.{flat_map};
 ghost use Rattle.std.specs.Option.{option_map};
+ghost use Rattle.ua_command.specs.Escape.{escape, IsEscaped};
 ghost use Rattle.ua_command.specs.Printed.{escaped, hex_digit, two_digits, quoted, identifier_text, node_text, status_text};
 
 use crate::row::add_number;
@@ -53,7 +54,7 @@ impl fmt::Display for Inner<'_> {
 fn is_plain(byte: u8) -> bool
     ensures same { IsTrue result → escaped byte ≡ byte ∷ [] }
     ensures ascii { IsTrue result → byte < 128 }
-    ensures other { result ≡ false → escaped byte ≡ 92 ∷ 120 ∷ two_digits byte }
+    ensures other { result ≡ false → IsEscaped byte }
 {
     match byte {
         b'"' | b'\\' => false,
@@ -67,6 +68,7 @@ fn plain_len(bytes: &[u8]) -> usize
     ensures within { result ≤ length bytes.now }
     ensures same { flat_map escaped (take result bytes.now) ≡ take result bytes.now }
     ensures ascii { IsAscii (take result bytes.now) }
+    ensures other { result < length bytes.now → IsEscaped (slice_index bytes.now result) }
 {
     let mut n = 0;
     'plain: while n < bytes.len() {
@@ -83,22 +85,20 @@ fn plain_run(bytes: &[u8]) -> &str
     ensures within { length result.now ≤ length bytes.now }
     ensures front { result.now ≡ take (length result.now) bytes.now }
     ensures same { flat_map escaped result.now ≡ result.now }
+    ensures other { 1 ≤ length bytes.now → length result.now ≡ 0 → IsEscaped (slice_index bytes.now 0) }
 {
     unsafe { std::str::from_utf8_unchecked(&bytes[..plain_len(bytes)]) }
 }
 
-/// One byte of a text between double quotes.
+/// A byte that does not stand for itself.
 #[derive(Clone, Copy)]
 struct Escaped(u8);
 
 impl fmt::Display for Escaped {
-    ghost output = { λ e. Some (escaped e.0) };
+    ghost output = { λ e. Some (escape e.0) };
 
     fn fmt<W: fmt::Write>(&self, f: &mut fmt::Formatter<W>) -> fmt::Result {
         let byte = self.0;
-        if is_plain(byte) {
-            return f.write_char(char::from(byte));
-        }
         let four = [b'\\', b'x', digit(byte / 16), digit(byte % 16)];
         f.write_str(unsafe { std::str::from_utf8_unchecked(&four) })
     }
