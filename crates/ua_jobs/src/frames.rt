@@ -129,6 +129,11 @@ fn put_framed(out: &mut Vec<u8>, what: &[u8; 4], body: &[u8]) -> Result<(), Fail
     Ok(())
 }
 
+/// The header of FindServers, or of GetEndpoints where that is said.
+pub fn put_head(out: &mut Vec<u8>, endpoints: bool) -> Result<(), Failed> {
+    put_request_header(out, if endpoints { 428 } else { 422 })
+}
+
 /// The body of FindServers, or of GetEndpoints where that is said, with so many locales.
 fn put_question(
     out: &mut Vec<u8>,
@@ -136,7 +141,7 @@ fn put_question(
     endpoints: bool,
     locales: u32,
 ) -> Result<(), Failed> {
-    put_request_header(out, if endpoints { 428 } else { 422 })?;
+    put_head(out, endpoints)?;
     put_text(out, url)?;
     put_number(out, locales)?;
     let mut place = url.len();
@@ -155,7 +160,7 @@ fn put_question(
 
 /// The body of FindServers, or of GetEndpoints where that is said, in one language or, where that is empty, in none.
 pub fn put_query(out: &mut Vec<u8>, endpoints: bool, language: &[u8]) -> Result<(), Failed> {
-    put_request_header(out, if endpoints { 428 } else { 422 })?;
+    put_head(out, endpoints)?;
     put_text(out, b"opc.tcp://localhost:4840")?;
     if language.is_empty() {
         out.extend_from_slice(&NULL)?;
@@ -176,11 +181,6 @@ pub fn put_part(out: &mut Vec<u8>, last: bool, n: u32, body: &[u8]) -> Result<()
     }
     out.extend_from_slice(body)?;
     Ok(())
-}
-
-/// The header of a GetEndpoints request.
-pub fn put_endpoints_head(body: &mut Vec<u8>) -> Result<(), Failed> {
-    put_request_header(body, 428)
 }
 
 /// The header of a request of a service that no discovery server offers.

@@ -5,7 +5,7 @@ use crate::connections::{Ticks, ask_and_close, begin, put_pieces};
 use crate::digest::{Digest, Failed, Work, lend};
 use crate::documents::{Shape, drawn_settings};
 use crate::draw::{Draw, Pool, digit};
-use crate::frames::{Caller, put_endpoints_head, put_number, put_part, put_text};
+use crate::frames::{Caller, put_head, put_number, put_part, put_text};
 use std::alloc::Global;
 use ua_conn::End;
 use ua_disco::Settings;
@@ -117,7 +117,7 @@ fn connections(
 
 /// The body of a GetEndpoints request with so many locales, of which the last one is that of a name.
 fn put_long_body(body: &mut Vec<u8>, draw: &mut Draw, locales: u32) -> Result<(), Failed> {
-    put_endpoints_head(body)?;
+    put_head(body, true)?;
     put_text(body, b"opc.tcp://localhost:4840")?;
     put_number(body, locales)?;
     for _ in 1..locales {
