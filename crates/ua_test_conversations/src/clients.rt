@@ -89,12 +89,22 @@ fn refusal<T: Drop>(asked: Result<u32, (AskFault, T)>) -> Result<u32, AskFault> 
     }
 }
 
-/// Asks FindServers in parts of so many bytes: its id, or why not; none where it could not be made.
-fn asks(alloc: Global, client: &mut Client, part_limit: u32) -> Option<Result<u32, AskFault>> {
-    match read_request(alloc, FIND_BODY) {
+/// Asks the request with this body in parts of so many bytes: its id, or why not; none where it could not be made.
+pub(crate) fn asks_for(
+    alloc: Global,
+    client: &mut Client,
+    body: &[u8],
+    part_limit: u32,
+) -> Option<Result<u32, AskFault>> {
+    match read_request(alloc, body) {
         Ok(request) => Some(refusal(client.ask(0, request, part_limit))),
         Err(_) => None,
     }
+}
+
+/// Asks FindServers.
+fn asks(alloc: Global, client: &mut Client, part_limit: u32) -> Option<Result<u32, AskFault>> {
+    asks_for(alloc, client, FIND_BODY, part_limit)
 }
 
 pub(crate) fn greets(alloc: Global) -> Option<Client> {

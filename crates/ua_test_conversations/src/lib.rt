@@ -37,6 +37,8 @@ mod hostile_servers;
 #[cfg(test)]
 mod keys;
 #[cfg(test)]
+mod large_asks;
+#[cfg(test)]
 mod lending;
 #[cfg(test)]
 mod limits;
