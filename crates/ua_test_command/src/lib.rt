@@ -29,8 +29,12 @@ mod showing;
 #[cfg(test)]
 mod streams;
 #[cfg(test)]
+mod turns;
+#[cfg(test)]
 mod values;
 #[cfg(test)]
 mod vectors;
+#[cfg(test)]
+mod whole_asks;
 #[cfg(test)]
 mod words;

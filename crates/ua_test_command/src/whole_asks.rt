@@ -1,0 +1,98 @@
+//! What `ask` says from its Hello to the close, byte for byte.
+
+use crate::runs::Page;
+use crate::vectors::{
+    ACKNOWLEDGE, CLOSE_REQUEST, ENDPOINTS_RESPONSE, FIND_REQUEST, FIND_RESPONSE, OPEN_RESPONSE,
+};
+use std::alloc::Global;
+use ua_command::{Question, ask_over};
+use ua_link::{Clock, MemoryLink};
+
+const URL: &str = "opc.tcp://localhost:4840";
+
+/// A Hello with buffers of 65535 bytes, messages of 1048576 bytes, 64 chunks, and the url.
+const HELLO: &[u8] =
+    b"HELF\x38\0\0\0\0\0\0\0\xFF\xFF\0\0\xFF\xFF\0\0\0\0\x10\0\x40\0\0\0\x18\0\0\0opc.tcp://localhost:4840";
+
+/// An open request without security, under number 1 and request id 1, up to its moment.
+const OPENING: &[u8] =
+    b"OPNF\x84\0\0\0\0\0\0\0\x2F\0\0\0http://opcfoundation.org/UA/SecurityPolicy#None\xFF\xFF\xFF\xFF\xFF\xFF\xFF\xFF\x01\0\0\0\x01\0\0\0\x01\0\xBE\x01\0\0";
+
+/// What stands behind the moment: handle 1, the rest of its header, version 0, a token to be issued, no security, no
+/// nonce, and a lifetime of 3600000 milliseconds.
+const LASTING_AN_HOUR: &[u8] =
+    b"\x01\0\0\0\0\0\0\0\xFF\xFF\xFF\xFF\0\0\0\0\0\0\0\0\0\0\0\0\0\0\0\x01\0\0\0\xFF\xFF\xFF\xFF\x80\xEE\x36\0";
+
+/// A clock that stands still.
+#[derive(Clone, Copy)]
+struct StoppedClock {
+    moment: i64,
+}
+
+impl Clock for StoppedClock {
+    fn now(&mut self) -> i64 {
+        self.moment
+    }
+}
+
+/// Whether the bytes are these parts, one behind another, and nothing else.
+fn are_joined(bytes: &[u8], parts: &[&[u8]]) -> bool {
+    let mut rest = bytes;
+    for part in parts {
+        match rest.strip_prefix(*part) {
+            Some(more) => rest = more,
+            None => return false,
+        }
+    }
+    rest.is_empty()
+}
+
+/// Whether these are a Hello, an open request, a request of this type and a close request, each but the first of this moment.
+fn are_calls(sent: &[u8], moment: i64, of_type: u8) -> bool {
+    let moment = moment.to_le_bytes();
+    let calls = [
+        HELLO,
+        OPENING,
+        moment.as_slice(),
+        LASTING_AN_HOUR,
+        &FIND_REQUEST[..26],
+        &[of_type],
+        &FIND_REQUEST[27..30],
+        moment.as_slice(),
+        &FIND_REQUEST[38..],
+        &CLOSE_REQUEST[..30],
+        moment.as_slice(),
+        &CLOSE_REQUEST[38..],
+    ];
+    are_joined(sent, &calls)
+}
+
+/// Whether the question by a clock that stands at this moment is asked by a request of this type, of a server that says
+/// this to it.
+fn says_all(alloc: Global, question: Question, moment: i64, of_type: u8, said: &[u8]) -> bool {
+    let pieces = [ACKNOWLEDGE, OPEN_RESPONSE, said];
+    let mut link = MemoryLink::new(alloc, &pieces, 100);
+    let mut clock = StoppedClock { moment };
+    let (mut printed, mut told) = (Page::new(4096), Page::new(4096));
+    let status = ask_over(
+        alloc,
+        &mut link,
+        &mut clock,
+        question,
+        URL,
+        &mut printed,
+        &mut told,
+    );
+    status == 0 && are_calls(link.sent(), moment, of_type)
+}
+
+/// A moment of November 2025, of eight bytes that differ.
+const LATER: i64 = 0x01DC_5FA3_B847_2E91;
+
+#[test]
+fn all_that_is_said_is_that_of_the_standard(rt: HostRuntime) {
+    let alloc = rt.alloc();
+    assert!(rt; says_all(alloc, Question::Find, 0, 0xA6, FIND_RESPONSE));
+    assert!(rt; says_all(alloc, Question::Find, LATER, 0xA6, FIND_RESPONSE));
+    assert!(rt; says_all(alloc, Question::Endpoints, LATER, 0xAC, ENDPOINTS_RESPONSE));
+}
