@@ -202,6 +202,7 @@ fn width(kind: Kind) -> u64
 
 /// The length of a count and the elements, all of the kind. Those of as many bytes each are not looked at.
 #[cycle(len)]
+#[inline(never)]
 fn list_len(kind: Kind, items: &Option<Vec<Element>>) -> u64
     requires short { IsShortList (items_in items.now) }
     requires same { IfSome (items_in items.now) (λ es. AllOf (kind_of kind) (items_of es)) }
