@@ -70,8 +70,20 @@ fn run_at(text: &[u8], at: usize) -> usize
     }
 }
 
-/// Where the first line end stands.
+/// Where the first line end stands. The first two bytes come first, as a blank line has no more.
+#[inline(always)]
 pub fn line_end(text: &[u8]) -> Option<usize>
+    ensures { result ≡ position (λ c. c == 10) text.now }
+{
+    match text {
+        [b'\n', ..] => Some(0),
+        [_, b'\n', ..] => Some(1),
+        _ => far_line_end(text),
+    }
+}
+
+/// The same by blocks.
+fn far_line_end(text: &[u8]) -> Option<usize>
     ensures { result ≡ position (λ c. c == 10) text.now }
 {
     let mut at = 0;

@@ -1,6 +1,6 @@
 use Rattle.std.proofs.Common.{◌+◌, arith}
 use Rattle.ua_command.proofs.Dropped.{ends_at, ends_nowhere, is_end, none_more}
-use Rattle.ua_command.proofs.search.line_end.Goals as goal
+use Rattle.ua_command.proofs.search.far_line_end.Goals as goal
 
 pub returns-then-run-lt-BLOCK : goal.returns-then-run-lt-BLOCK
 returns-then-run-lt-BLOCK c =

@@ -1,6 +1,6 @@
 use Rattle.std.proofs.Common.{◌-◌, ◌≤◌, length}
 use Rattle.ua_command.proofs.Dropped.{NoneBefore}
-use Rattle.ua_command.proofs.search.line_end.Given as goal
+use Rattle.ua_command.proofs.search.far_line_end.Given as goal
 
 abbrev pub invariant-runs : goal.invariant-runs
 invariant-runs l = record {
