@@ -1,8 +1,9 @@
 //! Reads values of a table under their rules.
 
-ghost use Rattle.std.specs.Prelude.{◌≡◌, ◌≤◌, ◌++◌, ◌∷◌, [], ℕ, List, Option, Result, Some, None, IfOk, IfSome, length, map, option_map, string_bytes};
+ghost use Rattle.std.specs.Prelude.{◌≡◌, ◌≤◌, ◌++◌, ◌⊎◌, [], ℕ, List, Option, Result, Some, None, IfOk, IfErr, IfSome, length, map, option_map};
 ghost use Rattle.std.specs.List.{AllByRecursion};
-ghost use Rattle.std.specs.Fmt.{decimal};
+ghost use Rattle.hex.specs.Hex.{decode_of};
+ghost use Rattle.hex.specs.declared.error.FromHexError.TheVariants.{OutOfMemory};
 ghost use Rattle.toml.specs.Data.{Data, get_member};
 ghost use Rattle.toml.specs.View.{view, table_view, array_view};
 ghost use Rattle.ua_disco.specs.Bounds.{IsShort, IsCertificate};
@@ -12,11 +13,12 @@ ghost use Rattle.ua_disco.specs.Reading.{text_value, certificate_value, items_va
 
 use crate::fault::SettingsFault;
 use crate::path::{Path, item_path, path_of, text_of};
+use hex::FromHexError;
 use std::alloc::Global;
 use std::marker::Model;
 use toml::value::Array as Values;
 use toml::{Table, Value};
-use ua_value::{UaBytes, UaString};
+use ua_value::{UaBytes, UaString, ValueFault};
 
 /// The most bytes of a text.
 const MOST_TEXT: usize = 4095;
@@ -99,11 +101,28 @@ impl FromValue for UaString {
         if text.len() > MOST_TEXT {
             return Err(is_bad_value(alloc, path));
         }
-        match UaString::new(alloc, text) {
+        match copied(alloc, text) {
             Ok(text) => Ok(text),
             Err(_) => Err(SettingsFault::NoMemory),
         }
     }
+}
+
+/// A copy of a text whose length was judged: one that is too long takes no memory.
+fn copied(alloc: Global, text: &str) -> Result<UaString, ValueFault>
+    requires { length text.now ≤ 4095 }
+    ensures { IfOk result (λ copy. copy ≡ Some text.now) }
+{
+    UaString::new(alloc, text)
+}
+
+/// The bytes of digits whose number was judged.
+fn decoded(alloc: Global, digits: &str) -> Result<Vec<u8>, FromHexError>
+    requires { length digits.now ≤ 131072 }
+    ensures ok { IfOk result (λ bytes. decode_of digits.now ≡ Ok bytes.items) }
+    ensures err { IfErr result (λ e. (e ≡ OutOfMemory) ⊎ (decode_of digits.now ≡ Err e)) }
+{
+    ua_hex::decode(alloc, digits.as_bytes())
 }
 
 #[tactic(auto, unfolding(crate::specs::Reading::certificate_value))]
@@ -119,9 +138,9 @@ impl FromValue for UaBytes {
         if text.len() > MOST_DIGITS {
             return Err(is_bad_value(alloc, path));
         }
-        let bytes = match ua_hex::decode(alloc, text.as_bytes()) {
+        let bytes = match decoded(alloc, text) {
             Ok(bytes) => bytes,
-            Err(hex::FromHexError::OutOfMemory) => return Err(SettingsFault::NoMemory),
+            Err(FromHexError::OutOfMemory) => return Err(SettingsFault::NoMemory),
             Err(_) => return Err(is_bad_value(alloc, path)),
         };
         match UaBytes::from_vec(bytes) {
@@ -161,11 +180,13 @@ impl<T: FromValue> Listed<T> {
     }
 }
 
+/// The items of an array whose count was judged.
 fn read_items<T: FromValue>(
     alloc: Global,
     path: &Path<'_>,
     values: &Values,
 ) -> Result<Vec<T>, SettingsFault>
+    requires { length values.now.items ≤ 65535 }
     ensures gives { Gives (λ v. v.items) (items_value T.rule (path_text path.now) 0 (array_view values.now)) result }
     ensures kept { IfOk result (λ v. AllByRecursion T.keeps v.items) }
     ensures count { IfOk result (λ v. length v.items ≡ length values.now.items) }

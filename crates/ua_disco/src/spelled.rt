@@ -1,6 +1,6 @@
 //! Applications and endpoints with the bytes that they are put as.
 
-ghost use Rattle.std.specs.Prelude.{◌≡◌, ◌≤◌, ◌++◌, length, IfOk, OnOk, OnErr};
+ghost use Rattle.std.specs.Prelude.{◌≡◌, ◌≤◌, ◌++◌, ℕ, List, length, IfOk, OnOk, OnErr};
 ghost use Rattle.ua_value.specs.Format.{AppendsPart};
 ghost use Rattle.ua_service.specs.Endpoint.{endpoint_description};
 ghost use Rattle.ua_service.specs.Application.{application_description};
@@ -83,40 +83,80 @@ fn around_name(alloc: Global, application: &Application) -> Result<(Vec<u8>, Vec
     Ok((front, behind))
 }
 
-/// What stands before the name of an application. It is put at once; a sink that refuses it as a whole gets the parts that
-/// it takes, as it would if they had not been spelled before.
+/// What stands spelled, and is put at once.
+trait SpelledOnce {
+    // its bytes
+    ghost spelled: { Self → List ℕ };
+
+    /// The bytes, as they stand spelled.
+    fn bytes(&self) -> &[u8]
+        ensures { result.now ≡ spelled self.now };
+
+    /// Puts the parts of which they were spelled, one after another.
+    ///
+    /// # Errors
+    ///
+    /// `NoMemory` where a growth was refused; a beginning of the bytes may have been put.
+    fn put_parts<S: Sink>(&self, out: &mut S) -> Result<(), NoMemory>
+        ensures ok { OnOk result (S.contents out.new ≡ S.contents out.old ++ spelled self.now) }
+        ensures err { OnErr result (AppendsPart (S.contents out.old) (S.contents out.new) (spelled self.now)) };
+}
+
+/// What is put at once; a sink that refuses it as a whole gets the parts that it takes, as it would if they had not been
+/// spelled before.
+#[derive(Clone, Copy)]
+struct AtOnce<T> {
+    whole: T,
+}
+
+impl<T: SpelledOnce> Parts for AtOnce<T> {
+    ghost spelling = { λ p. T.spelled p.whole };
+
+    fn emit_parts<S: Sink>(&self, out: &mut S) -> Result<(), NoMemory> {
+        match out.put(self.whole.bytes()) {
+            Ok(()) => Ok(()),
+            Err(_) => self.whole.put_parts(out),
+        }
+    }
+}
+
+/// What stands before the name of an application.
 #[derive(Clone, Copy)]
 struct BeforeName<'a> {
     application: &'a SpelledApplication,
 }
 
-impl<'a> Parts for BeforeName<'a> {
-    ghost spelling = { λ p. before_name p.application.now };
+impl<'a> SpelledOnce for BeforeName<'a> {
+    ghost spelled = { λ p. before_name p.application.now };
 
-    fn emit_parts<S: Sink>(&self, out: &mut S) -> Result<(), NoMemory> {
+    fn bytes(&self) -> &[u8] {
         let application = self.application;
-        match out.put(&application.front) {
-            Ok(()) => Ok(()),
-            Err(_) => application.application.put_front(out),
-        }
+        &application.front
+    }
+
+    fn put_parts<S: Sink>(&self, out: &mut S) -> Result<(), NoMemory> {
+        let application = self.application;
+        application.application.put_front(out)
     }
 }
 
-/// What stands behind the name of an application, put in the same way.
+/// What stands behind the name of an application.
 #[derive(Clone, Copy)]
 struct BehindName<'a> {
     application: &'a SpelledApplication,
 }
 
-impl<'a> Parts for BehindName<'a> {
-    ghost spelling = { λ p. behind_name p.application.now };
+impl<'a> SpelledOnce for BehindName<'a> {
+    ghost spelled = { λ p. behind_name p.application.now };
 
-    fn emit_parts<S: Sink>(&self, out: &mut S) -> Result<(), NoMemory> {
+    fn bytes(&self) -> &[u8] {
         let application = self.application;
-        match out.put(&application.behind) {
-            Ok(()) => Ok(()),
-            Err(_) => application.application.put_behind(out),
-        }
+        &application.behind
+    }
+
+    fn put_parts<S: Sink>(&self, out: &mut S) -> Result<(), NoMemory> {
+        let application = self.application;
+        application.application.put_behind(out)
     }
 }
 
@@ -145,9 +185,17 @@ impl<'a> Parts for NamedApplication<'a> {
 
     fn emit_parts<S: Sink>(&self, out: &mut S) -> Result<(), NoMemory> {
         let application = self.application;
-        let first = BeforeName { application };
-        let behind = (self.name, BehindName { application });
-        Then { first, behind }.emit_parts(out)
+        let first = AtOnce {
+            whole: BeforeName { application },
+        };
+        let behind = AtOnce {
+            whole: BehindName { application },
+        };
+        Then {
+            first,
+            behind: (self.name, behind),
+        }
+        .emit_parts(out)
     }
 }
 
@@ -219,7 +267,9 @@ impl SpelledEndpoint {
         ensures ok { OnOk result (S.contents out.new ≡ S.contents out.old ++ endpoint_description.canon (described_endpoint server.now.application.now server.now.name.now self.now)) }
         ensures err { OnErr result (AppendsPart (S.contents out.old) (S.contents out.new) (endpoint_description.canon (described_endpoint server.now.application.now server.now.name.now self.now))) }
     {
-        let behind = BehindServer { endpoint: self };
+        let behind = AtOnce {
+            whole: BehindServer { endpoint: self },
+        };
         (
             &self.endpoint.url,
             Then {
@@ -231,21 +281,23 @@ impl SpelledEndpoint {
     }
 }
 
-/// What stands behind the server of an endpoint, put as `BeforeName` is.
+/// What stands behind the server of an endpoint.
 #[derive(Clone, Copy)]
 struct BehindServer<'a> {
     endpoint: &'a SpelledEndpoint,
 }
 
-impl<'a> Parts for BehindServer<'a> {
-    ghost spelling = { λ p. behind_server p.endpoint.now };
+impl<'a> SpelledOnce for BehindServer<'a> {
+    ghost spelled = { λ p. behind_server p.endpoint.now };
 
-    fn emit_parts<S: Sink>(&self, out: &mut S) -> Result<(), NoMemory> {
+    fn bytes(&self) -> &[u8] {
         let endpoint = self.endpoint;
-        match out.put(&endpoint.behind) {
-            Ok(()) => Ok(()),
-            Err(_) => endpoint.endpoint.put_behind(out),
-        }
+        &endpoint.behind
+    }
+
+    fn put_parts<S: Sink>(&self, out: &mut S) -> Result<(), NoMemory> {
+        let endpoint = self.endpoint;
+        endpoint.endpoint.put_behind(out)
     }
 }
 
