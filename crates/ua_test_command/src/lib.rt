@@ -13,6 +13,8 @@ mod blocks;
 #[cfg(test)]
 mod failures;
 #[cfg(test)]
+mod hex_digits;
+#[cfg(test)]
 mod link_words;
 #[cfg(test)]
 mod memory;
