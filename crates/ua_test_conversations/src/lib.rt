@@ -9,6 +9,8 @@ mod answers;
 #[cfg(test)]
 mod assembling;
 #[cfg(test)]
+mod by_parts;
+#[cfg(test)]
 mod bytes;
 #[cfg(test)]
 mod channel;
@@ -46,6 +48,8 @@ mod limits;
 mod links;
 #[cfg(test)]
 mod loopback;
+#[cfg(test)]
+mod made_settings;
 #[cfg(test)]
 mod many;
 #[cfg(test)]

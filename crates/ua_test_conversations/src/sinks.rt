@@ -10,9 +10,22 @@ use ua_value::{Emit, NoMemory, Sink};
 
 /// What was put, and for how many bytes more there is room.
 #[derive(Drop)]
-struct SmallSink {
+pub(crate) struct SmallSink {
     bytes: Vec<u8>,
     room: usize,
+}
+
+impl SmallSink {
+    pub(crate) fn new(alloc: Global, room: usize) -> SmallSink {
+        SmallSink {
+            bytes: Vec::new(alloc),
+            room,
+        }
+    }
+
+    pub(crate) fn bytes(&self) -> &[u8] {
+        &self.bytes
+    }
 }
 
 impl Sink for SmallSink {
@@ -27,6 +40,50 @@ impl Sink for SmallSink {
                 self.room -= bytes.len();
                 Ok(())
             }
+            Err(_) => Err(AllocError),
+        }
+    }
+}
+
+/// What was put, but for the put of one number, which is refused, and for each later one where it is to be so forever.
+#[derive(Drop)]
+pub(crate) struct OneRefused {
+    bytes: Vec<u8>,
+    puts: usize,
+    refused: usize,
+    forever: bool,
+}
+
+impl OneRefused {
+    pub(crate) fn new(alloc: Global, refused: usize, forever: bool) -> OneRefused {
+        OneRefused {
+            bytes: Vec::new(alloc),
+            puts: 0,
+            refused,
+            forever,
+        }
+    }
+
+    pub(crate) fn bytes(&self) -> &[u8] {
+        &self.bytes
+    }
+
+    pub(crate) fn has_refused(&self) -> bool {
+        self.puts > self.refused
+    }
+}
+
+impl Sink for OneRefused {
+    ghost contents = { λ s. s.bytes.items };
+
+    fn put(&mut self, bytes: &[u8]) -> Result<(), NoMemory> {
+        let place = self.puts;
+        self.puts = place.saturating_add(1);
+        if place == self.refused || (self.forever && place > self.refused) {
+            return Err(AllocError);
+        }
+        match self.bytes.extend_from_slice(bytes) {
+            Ok(()) => Ok(()),
             Err(_) => Err(AllocError),
         }
     }
@@ -57,10 +114,7 @@ fn fitting(parts: &[usize], room: usize) -> usize {
 }
 
 fn is_put(alloc: Global, answer: &LentAnswer, body: &[u8], parts: &[usize], room: usize) -> bool {
-    let mut sink = SmallSink {
-        bytes: Vec::new(alloc),
-        room,
-    };
+    let mut sink = SmallSink::new(alloc, room);
     let is_whole = answer.emit(&mut sink).is_ok();
     is_whole == (room >= body.len())
         && body.starts_with(&sink.bytes)
