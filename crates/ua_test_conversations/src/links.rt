@@ -2,12 +2,12 @@
 
 ghost use Rattle.std.specs.Prelude.{◌≡◌, false};
 
-use crate::bytes::joined;
+use crate::bytes::{changed, chunk, joined};
 use crate::lending::{by_default, passes};
 use crate::vectors::{
     ACKNOWLEDGE, CLOSE_REQUEST, FIND_REQUEST, FIND_RESPONSE, HELLO, OPEN_REQUEST, OPEN_RESPONSE,
 };
-use std::alloc::Global;
+use std::alloc::{AllocError, Global};
 use ua_conn::{Client, ClientConfig, End, Server};
 use ua_disco::Settings;
 use ua_link::{
@@ -200,18 +200,56 @@ impl<'a> Link for LookingLink<'a> {
     }
 }
 
-fn reads_into_zeros(alloc: Global, settings: &Settings) -> bool {
+/// Whether the pieces are served so, and each read of them found zeros.
+fn reads_into_zeros(alloc: Global, settings: &Settings, pieces: &[&[u8]], came: Came) -> bool {
     let mut link = LookingLink {
-        inner: MemoryLink::new(alloc, &CALLS, SEND_LIMIT),
+        inner: MemoryLink::new(alloc, pieces, SEND_LIMIT),
         zeros: true,
     };
     let report = serve_connection(alloc, settings, 1, &mut link, &mut StillClock, TURNS);
-    came_of(&report) == (End::Closed, 297, 4) && link.zeros
+    came_of(&report) == came && link.zeros
+}
+
+/// What a request of another service has before bytes that are no zeros: 33 bytes of its body.
+const OTHER_FRONT: &[u8] =
+    b"\x01\0\xCD\x01\0\0\0\0\0\0\0\0\0\0\x02\0\0\0\0\0\0\0\xFF\xFF\xFF\xFF\0\0\0\0\0\0\0";
+
+/// The opening and a request for servers, 281 bytes, and a request of another service, which has so many bytes then.
+fn with_long_request(alloc: Global, len: usize) -> Result<Vec<u8>, AllocError> {
+    let mut body = OTHER_FRONT.to_vec(alloc)?;
+    body.resize(len.saturating_sub(24), 0xAA)?;
+    let request = chunk(alloc, b"MSGF", [1, 3, 3], body.as_slice())?;
+    joined(
+        alloc,
+        &[HELLO, OPEN_REQUEST, FIND_REQUEST, request.as_slice()],
+    )
+}
+
+/// Whether that is answered whole, and each read found zeros, where it comes at once and a close behind it: in reads of
+/// 4096 bytes, the last one apart.
+fn reads_long_into_zeros(alloc: Global, settings: &Settings, len: usize, reads: usize) -> bool {
+    let close = changed(alloc, CLOSE_REQUEST, 16, b"\x04\0\0\0\x04").ok();
+    let long = with_long_request(alloc, len).ok();
+    let came = (End::Closed, 297 + 52, reads);
+    passes(long, |long| {
+        passes(close, |close| {
+            reads_into_zeros(alloc, settings, &[&*long, &*close], came)
+        })
+    })
+}
+
+/// Reads of a few bytes, of all 4096 and of fewer behind them: 12,201 bytes are two whole reads and one of 4009, 8192 are two
+/// whole ones, 4097 one and one of a byte.
+fn each_reads_into_zeros(alloc: Global, settings: &Settings) -> bool {
+    reads_into_zeros(alloc, settings, &CALLS, (End::Closed, 297, 4))
+        && reads_long_into_zeros(alloc, settings, 12_201 - 281, 4)
+        && reads_long_into_zeros(alloc, settings, 8192 - 281, 3)
+        && reads_long_into_zeros(alloc, settings, 4097 - 281, 3)
 }
 
 #[test]
 fn each_read_of_a_connection_finds_zeros(rt: HostRuntime) {
-    assert!(rt; by_default(rt.alloc(), reads_into_zeros));
+    assert!(rt; by_default(rt.alloc(), each_reads_into_zeros));
 }
 
 /// How a connection ends whose client sends these pieces and no more.

@@ -5,7 +5,7 @@ ghost use Rattle.std.specs.Prelude.{◌≡◌, false};
 
 use crate::answers::Asked;
 use crate::assembling::part;
-use crate::bytes::chunk_at;
+use crate::bytes::{chunk_at, joined};
 use crate::lending::{judged, passes};
 use crate::vectors::{
     ABORT_TOO_LARGE, CLOSE_REQUEST, ENDPOINTS_REQUEST, ENDPOINTS_RESPONSE, FAULT_RESPONSE,
@@ -16,7 +16,7 @@ use std::alloc::{AllocError, Global};
 use ua_chunk::{
     Added, Assembly, Chunk, Sequence, write_abort, write_chunks, write_close, write_open,
 };
-use ua_conn::{End, Outcome, answer_all};
+use ua_conn::{End, Outcome, answer_all, reply_all};
 use ua_disco::{DEFAULT, Settings, SettingsFault};
 use ua_frame::Kind;
 use ua_service::Request;
@@ -262,10 +262,44 @@ fn are_two_answered(alloc: Global) -> Option<bool> {
 #[test]
 fn memory_is_ample(rt: HostRuntime) {
     assert!(rt; are_two_answered(rt.alloc()) == Some(true));
+    assert!(rt; are_replied_at_once(rt.alloc()) == Some(true));
 }
 
 /// The whole answer, or none.
 #[test]
 fn answer_all_or_no_memory(rt: HostRuntime) {
     assert!(rt; are_two_answered(rt.alloc()) != Some(false));
+}
+
+/// Whether the settings reply to the opening and then to both requests in one piece, or `None` where memory ran out.
+fn are_replied(alloc: Global, settings: &Settings, both: &[u8]) -> Option<bool> {
+    match reply_all(
+        alloc,
+        settings,
+        1,
+        &[(0, HELLO), (0, OPEN_REQUEST), (0, both)],
+    ) {
+        Ok((reply, end)) => {
+            Some(reply.len() == 349 && reply.ends_with(SECOND_REPLY) && end == End::InputEnded)
+        }
+        Err(_) => None,
+    }
+}
+
+/// The fault that the second request is answered.
+const SECOND_REPLY: &[u8] =
+    b"MSGF\x34\0\0\0\x01\0\0\0\x01\0\0\0\x03\0\0\0\x03\0\0\0\x01\0\x8D\x01\0\0\0\0\0\0\0\0\x02\0\0\0\0\0\x0B\x80\0\xFF\xFF\xFF\xFF\0\0\0";
+
+fn are_replied_at_once(alloc: Global) -> Option<bool> {
+    let both = joined(alloc, &[FIND_REQUEST, SECOND_REQUEST]).ok();
+    judged(both, |both| {
+        let settings = Settings::from_toml(alloc, DEFAULT.as_bytes()).ok();
+        judged(settings, |settings| are_replied(alloc, settings, both))
+    })
+}
+
+/// The whole reply, or none, of two requests that one piece brings.
+#[test]
+fn reply_all_or_no_memory(rt: HostRuntime) {
+    assert!(rt; are_replied_at_once(rt.alloc()) != Some(false));
 }

@@ -4,7 +4,7 @@ use crate::bytes::{changed, joined};
 use crate::lending::{by_default, by_settings, passes};
 use crate::vectors::{ACKNOWLEDGE, HELLO, OPENED, OPENING};
 use std::alloc::{AllocError, Global};
-use ua_conn::{End, Outcome, answer_all};
+use ua_conn::{End, Outcome, answer_all, reply_all};
 use ua_disco::{DEFAULT, Settings};
 
 /// How far a connection has come.
@@ -116,7 +116,15 @@ pub(crate) fn answers(
     owed: Owed,
 ) -> bool {
     let outcome = answer_all(alloc, settings, 1, pieces).ok();
-    passes(outcome, |outcome| is_owed(outcome, owed))
+    passes(outcome, |outcome| is_owed(outcome, owed)) && replies(alloc, settings, pieces, owed)
+}
+
+/// Whether they reply so where no request is kept.
+fn replies(alloc: Global, settings: &Settings, pieces: &[(i64, &[u8])], owed: Owed) -> bool {
+    match reply_all(alloc, settings, 1, pieces) {
+        Ok((reply, end)) => reply.as_slice() == owed.0 && end == owed.2,
+        Err(_) => false,
+    }
 }
 
 /// The input in pieces of so many bytes, all at one moment.
