@@ -1,6 +1,6 @@
 //! A whole connection of a server over a link.
 
-ghost use Rattle.std.specs.Prelude.{◌≡◌, ◌-◌, ◌<◌, ◌^◌, vec_len, vec_capacity};
+ghost use Rattle.std.specs.Prelude.{◌≡◌, ◌-◌, ◌<◌, ◌≤◌, ◌^◌, ◌++◌, drop, replicate, vec_len, vec_capacity, IfSome};
 ghost use Rattle.ua_conn.specs.server.Site.{Site};
 ghost use Rattle.ua_link.specs.Turns.{Seen};
 ghost use Rattle.ua_link.specs.Reports.{Served, cuts_with};
@@ -34,6 +34,16 @@ fn add(cuts: &mut Vec<(i64, usize)>, cut: Option<(i64, usize)>)
     }
 }
 
+/// Makes zeros of what a read left in front of the room.
+fn clear(room: &mut [u8; MOST_READ], cut: Option<(i64, usize)>)
+    requires { IfSome cut (λ cut. cut.1 ≤ 4096) }
+    ensures { IfSome cut (λ cut. room.new ≡ replicate cut.1 0 ++ drop cut.1 room.old) }
+{
+    if let Some((_, n)) = cut {
+        room[..n].fill(0);
+    }
+}
+
 /// Serves one connection, in so many turns at most. The id of its channel is not 0.
 ///
 /// What is written begins the reply to what was read, each read at the moment of its entry in `cuts`. It is the whole
@@ -62,7 +72,7 @@ pub fn serve_connection<L: Link, C: Clock>(
         let end = End::NoMemory;
         return Report { end, cuts, written };
     };
-    // The room of all reads, which is zeros at the start of each turn.
+    // The room of all reads. It is zeros at the start of each turn, unless the link wrote behind what it said to have read.
     let mut room = [0u8; MOST_READ];
     'turns: for _ in 0..turns {
         if cuts.reserve(1).is_err() {
@@ -75,6 +85,7 @@ pub fn serve_connection<L: Link, C: Clock>(
         if let Some(end) = turn.end {
             return Report { end, cuts, written };
         }
+        clear(&mut room, turn.cut);
     }
     let end = End::TurnsSpent;
     Report { end, cuts, written }

@@ -1,6 +1,6 @@
 //! One turn of a server over a link.
 
-ghost use Rattle.std.specs.Prelude.{◌≡◌, ◌-◌, ◌<◌, ◌≤◌, ◌^◌, [], false, length, Some};
+ghost use Rattle.std.specs.Prelude.{◌≡◌, ◌-◌, ◌<◌, ◌≤◌, ◌^◌, [], false, length, Some, IfSome};
 ghost use Rattle.ua_link.specs.Turns.{Seen, HearsAll, Turns};
 
 use crate::clock::Clock;
@@ -101,8 +101,7 @@ pub fn pump<L: Link, C: Clock>(
     turn_in(alloc, server, link, clock, &mut room)
 }
 
-/// The same, which reads into room that its caller keeps. It is zeros wherever the link wrote no more than it said, and
-/// what came of it is zeros again when the turn is over.
+/// The same, which reads into room that its caller lends. What came stands in front of it afterwards.
 pub(crate) fn turn_in<L: Link, C: Clock>(
     alloc: Global,
     server: &mut Server,
@@ -112,15 +111,14 @@ pub(crate) fn turn_in<L: Link, C: Clock>(
 ) -> Turn
     requires going { server.old.failed ≡ false }
     requires countable { L.fault_count link.old < 2 ^ 64 - 1 }
-    ensures { let before : Seen = record { input = L.input link.old; output = L.output link.old; faults = L.fault_count link.old } in
+    ensures turns { let before : Seen = record { input = L.input link.old; output = L.output link.old; faults = L.fault_count link.old } in
         let after : Seen = record { input = L.input link.new; output = L.output link.new; faults = L.fault_count link.new } in
         Turns server.old server.new before after result }
+    ensures within { IfSome result.cut (λ cut. cut.1 ≤ 4096) }
 {
     let Ok(n) = link.recv(room) else {
         return Turn::ended(alloc, None, End::LinkFailed);
     };
     let now = clock.now();
-    let turn = answer(alloc, server, link, now, &room[..n]);
-    room[..n].fill(0);
-    turn
+    answer(alloc, server, link, now, &room[..n])
 }

@@ -26,10 +26,10 @@ turns-preserved g c =
     let cuts = c.add.ensures ∙ ap (cuts_with turn.cut) c.reserve.ensures.items in
     let n = c.turns.written in
     record {
-      entries = ap length cuts ∙ cut_counted c.turns.server c.turn_in-turn.new.server old mid after turn c.turn_in-turn.ensures c.in_default-end.is ∙ ap (λ k. k + 1) c.turns.invariant.entries;
+      entries = ap length cuts ∙ cut_counted c.turns.server c.turn_in-turn.new.server old mid after turn c.turn_in-turn.ensures.turns c.in_default-end.is ∙ ap (λ k. k + 1) c.turns.invariant.entries;
       bound = omega (arith, c.turns.invariant.bound);
       serving = subst (λ cs. Serving site c.turn_in-turn.new.server cs (n + turn.written) before after) (sym cuts)
-          (turn_goes_on site c.turns.server c.turn_in-turn.new.server old n before mid after turn c.turns.invariant.serving c.turn_in-turn.ensures c.in_default-end.is);
+          (turn_goes_on site c.turns.server c.turn_in-turn.new.server old n before mid after turn c.turns.invariant.serving c.turn_in-turn.ensures.turns c.in_default-end.is);
     }
 
 pub returns-in-Some : goal.returns-in-Some
@@ -43,4 +43,4 @@ returns-in-Some g c =
     let cuts = c.add.ensures ∙ ap (cuts_with turn.cut) c.reserve.ensures.items in
     let n = c.turns.written in
     subst (λ cs. Served site c.args.turns before after c.in-Some.end cs (n + turn.written)) (sym cuts)
-    (turn_ends site c.turns.server c.turn_in-turn.new.server old n c.args.turns before mid after turn c.in-Some.end c.turns.invariant.serving c.turn_in-turn.ensures c.in-Some.is)
+    (turn_ends site c.turns.server c.turn_in-turn.new.server old n c.args.turns before mid after turn c.in-Some.end c.turns.invariant.serving c.turn_in-turn.ensures.turns c.in-Some.is)

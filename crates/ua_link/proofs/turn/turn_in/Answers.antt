@@ -6,8 +6,8 @@ use Rattle.ua_link.specs.Turns.{Seen}
 use Rattle.ua_link.proofs.TurnLemmas.{heard_since, none_read}
 use Rattle.ua_link.proofs.turn.turn_in.Goals as goal
 
-pub returns-in_default : goal.returns-in_default
-returns-in_default g c = inl (record {
+pub returns-in_default-clause-turns : goal.returns-in_default-clause-turns
+returns-in_default-clause-turns g c = inl (record {
   cut = c.ended.ensures.cut;
   ending = c.ended.ensures.ending;
   written = c.ended.ensures.written;
@@ -18,24 +18,24 @@ returns-in_default g c = inl (record {
   counted = c.in_default.ensures.counted;
 })
 
-pub returns : goal.returns
-returns g c =
+pub returns-clause-turns : goal.returns-clause-turns
+returns-clause-turns g c =
     let n = c.in-Ok.n in
     let buf = c.recv.new.buf in
     let input = g.L.Link.input in
     let bound = c.in-Ok.ensures.bound in
-    let kept = sym c.answer-turn.ensures.kept in
+    let kept = sym c.answer.ensures.kept in
     let fits : SFits w64 c.now-now.result = search rules in
     let room : length buf ≡ 4096 = c.recv.auto.buf ∙ c.told-room in
     let old : Seen = record { input = input c.args.link.now; output = g.L.Link.output c.args.link.now; faults = g.L.Link.fault_count c.args.link.now } in
     let before : Seen = record { input = input c.recv.new.self; output = g.L.Link.output c.recv.new.self; faults = g.L.Link.fault_count c.recv.new.self } in
-    let after : Seen = record { input = input c.answer-turn.new.link; output = g.L.Link.output c.answer-turn.new.link; faults = g.L.Link.fault_count c.answer-turn.new.link } in
+    let after : Seen = record { input = input c.answer.new.link; output = g.L.Link.output c.answer.new.link; faults = g.L.Link.fault_count c.answer.new.link } in
     inr (record {
       now = c.now-now.result;
       bytes = take n buf;
-      cut = simp to_z-of_z at c.answer-turn.ensures.cut;
+      cut = simp to_z-of_z at c.answer.ensures.cut;
       input = subst (λ i. Consumes (input c.args.link.now) i (take n buf)) kept c.in-Ok.ensures.bytes.0;
       within = omega arith;
       at_end = λ none. subst IsAtEnd kept (c.in-Ok.ensures.bytes.1 (none_read n buf bound.0 none) (omega arith));
-      heard = heard_since c.args.server.now c.answer-turn.new.server c.now-now.result (take n buf) old before after c.answer-turn.result c.recv.ensures.kept c.in-Ok.ensures.counted (simp to_z-of_z at c.answer-turn.ensures.heard);
+      heard = heard_since c.args.server.now c.answer.new.server c.now-now.result (take n buf) old before after c.answer.result c.recv.ensures.kept c.in-Ok.ensures.counted (simp to_z-of_z at c.answer.ensures.heard);
     })
