@@ -26,13 +26,13 @@ pub struct Sequence {
 
 impl Model for Sequence {
     ghost use Rattle.std.specs.Prelude.{ℕ};
-    ghost use Rattle.ua_chunk.specs.NumberLaws.{IsNumber};
+    ghost use Rattle.ua_chunk.specs.Held.{IsSequence};
 
     ghost Value = { ℕ };
 
     ghost view = { λ s. s.next };
 
-    ghost invariant = { λ s. IsNumber s.next };
+    ghost invariant = { IsSequence };
 }
 
 impl Sequence {
