@@ -14,6 +14,7 @@ pub mod FirstFault
 pub mod Taking
 pub mod Ranges
 pub mod Kept
+pub mod Waiting
 pub mod Telling
 pub mod Effects
 pub mod Hearing

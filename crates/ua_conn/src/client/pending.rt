@@ -20,10 +20,13 @@ pub(crate) struct Pending {
 impl Model for Pending {
     ghost use Rattle.indexmap.specs.IndexMap.{spare};
     ghost use Rattle.ua_conn.specs.client.Taking.{Waiting};
+    ghost use Rattle.ua_conn.specs.client.Waiting.{IsAll};
 
     ghost Value = { Waiting };
 
     ghost view = { λ p. record { requests = p.map.entries; room = spare p.map } };
+
+    ghost invariant = { IsAll };
 }
 
 impl Pending {
