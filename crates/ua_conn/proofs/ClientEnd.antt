@@ -10,6 +10,7 @@ pub mod StopLemmas
 pub mod CommandLemmas
 pub mod IdLemmas
 pub mod CountLemmas
+pub mod UnansweredLemmas
 pub mod AcceptedLemmas
 pub mod FirstFaultLemmas
 pub mod WaitingLemmas

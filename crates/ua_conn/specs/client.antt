@@ -8,6 +8,7 @@ pub mod Questions
 pub mod Sending
 pub mod Asking
 pub mod Held
+pub mod Unanswered
 pub mod Feeding
 pub mod Machine
 pub mod FirstFault

@@ -4,6 +4,7 @@ ghost use Rattle.ua_conn.specs.server.FirstFault.{StopsFirst};
 ghost use Rattle.ua_conn.specs.server.Held.{ByRecord};
 ghost use Rattle.ua_conn.specs.client.FirstFault.{ClientStopsFirst, ClientStaysStopped};
 ghost use Rattle.ua_conn.specs.client.Held.{ClientByRecord, RefusedByRecord};
+ghost use Rattle.ua_conn.specs.client.Unanswered.{PendingIsUnanswered};
 ghost use Rattle.ua_conn.specs.BothEnds.{Faithful, HandedAndAccepted, NothingRefused, NoneUnanswered};
 ghost use Rattle.ua_conn.specs.server.Legal.{HasRoom, BeginsLegal};
 ghost use Rattle.ua_conn.specs.server.Site.{Site};
@@ -57,6 +58,12 @@ pub fn client_by_record()
 /// alone.
 pub fn refused_by_record()
     ensures { RefusedByRecord }
+{}
+
+/// What is pending at a client is what it asked less what it answered, in the order of asking: each answer is for the
+/// request that was asked under its id, no two are for one request, and each request is pending or answered.
+pub fn pending()
+    ensures { PendingIsUnanswered }
 {}
 
 /// After every schedule, what was delivered to the server is a beginning of what the client sent, and what was

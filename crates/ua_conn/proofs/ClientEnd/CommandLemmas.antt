@@ -67,7 +67,7 @@ due_stays c cmds past end id e =
 
 -- ---- what is accepted stays so
 
-a_some : {A : Type 0} (o : Option A) → is_none o ≡ false → (x : A) × (o ≡ Some x)
+pub a_some : {A : Type 0} (o : Option A) → is_none o ≡ false → (x : A) × (o ≡ Some x)
 a_some None e = absurd (cc e)
 a_some (Some x) e = (x, refl)
 

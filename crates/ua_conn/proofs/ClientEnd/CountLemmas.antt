@@ -1,5 +1,5 @@
 -- How many open requests were asked, how many are pending and how many tokens came: tokens are no more than open requests, which are fewer than ids.
-use Rattle.std.proofs.Common.{◌≡◌, ℕ, ◌+◌, ◌<◌, ◌≤◌, Bool, true, false, cond, List, [], ◌∷◌, length, None, refl, sym, ap, ◌∙◌, arith}
+use Rattle.std.proofs.Common.{◌≡◌, ℕ, ◌+◌, ◌<◌, ◌≤◌, Bool, true, false, cond, List, [], ◌∷◌, map, length, None, refl, sym, ap, ◌∙◌, arith}
 use Rattle.std.specs.Prelude.{◌==◌, nat_lt, not, is_some}
 use Rattle.std.specs.List.{filter}
 use Rattle.std.proofs.lemmas.List.{length-append}
@@ -9,6 +9,7 @@ use Rattle.ua_frame.specs.Layout.{Frame, frames_of, kind_of}
 use Rattle.ua_conn.specs.Past.{Past, is_open, carried, open_in}
 use Rattle.ua_conn.specs.client.Asker.{Asker}
 use Rattle.ua_conn.specs.client.Commands.{Act, Ask, Renew, Close, Commands, OpenAsked, opens_asked, opens_by, next_id}
+use Rattle.ua_conn.specs.client.Unanswered.{AreApart}
 use Rattle.ua_conn.specs.client.Past.{client_known, granted_in, granted_by, response_in}
 use Rattle.ua_conn.specs.client.Pending.{bytes_in, is_among, opening_id, opened_ids, wanted_at, opening_in, due_at, first_id}
 use Rattle.ua_conn.specs.client.Faults.{is_id, token_usable}
@@ -19,20 +20,21 @@ use Rattle.ua_conn.proofs.ClientEnd.ReadingLemmas.{along_reading}
 use Rattle.ua_conn.proofs.TableLemmas.{all_no}
 use Rattle.ua_conn.proofs.ClientEnd.FreshLemmas.{open_due}
 use Rattle.ua_conn.proofs.ClientEnd.RunLemmas.{AtMostOne, opening_step, shorter}
-use Rattle.ua_conn.proofs.ClientEnd.IdLemmas.{AreApart, ids_opened, opens_apart, opens_apart_part}
+use Rattle.ua_conn.proofs.ClientEnd.IdLemmas.{ids_opened, opens_apart, apart_part}
 
 -- ---- one open response answers one open request
 
-none_dropped : (id : ℕ) (xs : List OpenAsked) → is_among (ids_opened xs) id ≡ false → filter (λ r. not (id == r.id)) xs ≡ xs
-none_dropped id [] h = refl
-none_dropped id (x ∷ xs) h = by (id == x.id) refl (none_dropped id xs parts.1)
+-- where none has an id, none goes with it,
+pub none_dropped : {X : Type 0} (key : X → ℕ) (id : ℕ) (xs : List X) → is_among (map key xs) id ≡ false → filter (λ r. not (id == key r)) xs ≡ xs
+none_dropped key id [] h = refl
+none_dropped {X} key id (x ∷ xs) h = by (id == key x) refl (none_dropped key id xs parts.1)
   where
-    parts : ((x.id == id) ≡ false) × (is_among (ids_opened xs) id ≡ false)
-    parts = or_parts (x.id == id) (is_among (ids_opened xs) id) h
+    parts : ((key x == id) ≡ false) × (is_among (map key xs) id ≡ false)
+    parts = or_parts (key x == id) (is_among (map key xs) id) h
 
-    by : (b : Bool) → (id == x.id) ≡ b → filter (λ r. not (id == r.id)) xs ≡ xs → cond (not b) (x ∷ filter (λ r. not (id == r.id)) xs) (filter (λ r. not (id == r.id)) xs) ≡ x ∷ xs
-    by false e k = ap (λ (l : List OpenAsked). x ∷ l) k
-    by true e k = absurd (let c : true ≡ false = sym (eq-eqb x.id id (sym (eqb-true id x.id e))) ∙ parts.0 in cc c)
+    by : (b : Bool) → (id == key x) ≡ b → filter (λ r. not (id == key r)) xs ≡ xs → cond (not b) (x ∷ filter (λ r. not (id == key r)) xs) (filter (λ r. not (id == key r)) xs) ≡ x ∷ xs
+    by false e k = ap (λ (l : List X). x ∷ l) k
+    by true e k = absurd (let c : true ≡ false = sym (eq-eqb (key x) id (sym (eqb-true id (key x) e))) ∙ parts.0 in cc c)
 
 -- at most one goes,
 drops_one : (id : ℕ) (xs : List OpenAsked) → AreApart (ids_opened xs) → length xs ≤ 1 + length (filter (λ r. not (id == r.id)) xs)
@@ -42,7 +44,7 @@ drops_one id (x ∷ xs) h = by (id == x.id) refl (drops_one id xs h.1)
     by : (b : Bool) → (id == x.id) ≡ b → length xs ≤ 1 + length (filter (λ r. not (id == r.id)) xs) → length (x ∷ xs) ≤ 1 + length (cond (not b) (x ∷ filter (λ r. not (id == r.id)) xs) (filter (λ r. not (id == r.id)) xs))
     by false e k = omega (arith, k)
     by true e k =
-        let all = none_dropped id xs (ap (is_among (ids_opened xs)) (eqb-true id x.id e) ∙ h.0) in
+        let all : filter (λ r. not (id == r.id)) xs ≡ xs = none_dropped (λ (r : OpenAsked). r.id) id xs (ap (is_among (ids_opened xs)) (eqb-true id x.id e) ∙ h.0) in
         omega (arith, ap length all)
 
 -- and one at least, where it is the first of those that are due
@@ -92,7 +94,7 @@ opens_most cmds (f ∷ past) = by (is_open (kind_of f.bytes)) refl (opens_most c
       k,
       granted_one past f e,
       ap length (opening_open cmds past f e),
-      drops_one (opening_id (open_in f)) (opening_in cmds past) (opens_apart_part (λ r. not (is_among (opened_ids past) r.id)) (opens_asked cmds) (opens_apart cmds)),
+      drops_one (opening_id (open_in f)) (opening_in cmds past) (apart_part (λ (r : OpenAsked). r.id) (λ r. not (is_among (opened_ids past) r.id)) (opens_asked cmds) (opens_apart cmds)),
     )
     by false e k = omega (arith, k, ap length (granted_quiet past f e), ap length (opening_quiet cmds past f e))
 

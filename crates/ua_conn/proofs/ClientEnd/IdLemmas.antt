@@ -8,13 +8,10 @@ use Rattle.ua_frame.specs.Layout.{Frame, kind_of}
 use Rattle.ua_conn.specs.Past.{Past, is_open, carried, open_in}
 use Rattle.ua_conn.specs.client.Commands.{Act, Ask, Renew, Close, Commands, OpenAsked, opens_asked, opens_by, next_id}
 use Rattle.ua_conn.specs.client.Pending.{is_among, ends_one, opening_id, ended_ids, opened_ids}
+use Rattle.ua_conn.specs.client.Unanswered.{AreApart}
 use Rattle.ua_conn.proofs.ClientEnd.FreshLemmas.{OpensBelow, AreFresh, opens_below}
 
 -- ---- no two are the same
-
-abbrev pub AreApart : List ℕ → Type 0
-AreApart [] = Unit {0}
-AreApart (n ∷ ns) = (is_among ns n ≡ false) × AreApart ns
 
 abbrev pub ids_opened : List OpenAsked → List ℕ
 ids_opened xs = map (λ (r : OpenAsked). r.id) xs
@@ -29,7 +26,7 @@ not_last (k ∷ ns) n m lt h =
     let parts = or_parts (k == n) (is_among ns n) h in
     ap (λ b. b || is_among (ns ++ m ∷ []) n) parts.0 ∙ not_last ns n m lt parts.1
 
-apart_last : (ns : List ℕ) (m : ℕ) → AllUnder m ns → AreApart ns → AreApart (ns ++ m ∷ [])
+pub apart_last : (ns : List ℕ) (m : ℕ) → AllUnder m ns → AreApart ns → AreApart (ns ++ m ∷ [])
 apart_last [] m u h = (refl, tt)
 apart_last (n ∷ ns) m u h = (not_last ns n m u.0 h.0, apart_last ns m u.1 h.1)
 
@@ -46,23 +43,24 @@ opens_apart (c ∷ cmds) = subst AreApart (sym (map-append (λ (r : OpenAsked). 
     one (Ask request part) h = subst AreApart (sym (append-nil (ids_opened (opens_asked cmds)))) h
     one Close h = subst AreApart (sym (append-nil (ids_opened (opens_asked cmds)))) h
 
-opens_not_in_part : (p : OpenAsked → Bool) (n : ℕ) (xs : List OpenAsked) → is_among (ids_opened xs) n ≡ false → is_among (ids_opened (filter p xs)) n ≡ false
-opens_not_in_part p n [] h = h
-opens_not_in_part p n (x ∷ xs) h = by (p x) (opens_not_in_part p n xs parts.1)
+not_in_part : {X : Type 0} (key : X → ℕ) (p : X → Bool) (n : ℕ) (xs : List X) → is_among (map key xs) n ≡ false → is_among (map key (filter p xs)) n ≡ false
+not_in_part key p n [] h = h
+not_in_part key p n (x ∷ xs) h = by (p x) (not_in_part key p n xs parts.1)
   where
-    parts : ((x.id == n) ≡ false) × (is_among (ids_opened xs) n ≡ false)
-    parts = or_parts (x.id == n) (is_among (ids_opened xs) n) h
+    parts : ((key x == n) ≡ false) × (is_among (map key xs) n ≡ false)
+    parts = or_parts (key x == n) (is_among (map key xs) n) h
 
-    by : (b : Bool) → is_among (ids_opened (filter p xs)) n ≡ false → is_among (ids_opened (cond b (x ∷ filter p xs) (filter p xs))) n ≡ false
-    by true k = ap (λ b. b || is_among (ids_opened (filter p xs)) n) parts.0 ∙ k
+    by : (b : Bool) → is_among (map key (filter p xs)) n ≡ false → is_among (map key (cond b (x ∷ filter p xs) (filter p xs))) n ≡ false
+    by true k = ap (λ b. b || is_among (map key (filter p xs)) n) parts.0 ∙ k
     by false k = k
 
-pub opens_apart_part : (p : OpenAsked → Bool) (xs : List OpenAsked) → AreApart (ids_opened xs) → AreApart (ids_opened (filter p xs))
-opens_apart_part p [] h = tt
-opens_apart_part p (x ∷ xs) h = by (p x) (opens_apart_part p xs h.1)
+-- nor are two of a part of them
+pub apart_part : {X : Type 0} (key : X → ℕ) (p : X → Bool) (xs : List X) → AreApart (map key xs) → AreApart (map key (filter p xs))
+apart_part key p [] h = tt
+apart_part key p (x ∷ xs) h = by (p x) (apart_part key p xs h.1)
   where
-    by : (b : Bool) → AreApart (ids_opened (filter p xs)) → AreApart (ids_opened (cond b (x ∷ filter p xs) (filter p xs)))
-    by true k = (opens_not_in_part p x.id xs h.0, k)
+    by : (b : Bool) → AreApart (map key (filter p xs)) → AreApart (map key (cond b (x ∷ filter p xs) (filter p xs)))
+    by true k = (not_in_part key p (key x) xs h.0, k)
     by false k = k
 
 -- ---- ids that are not given yet were not answered

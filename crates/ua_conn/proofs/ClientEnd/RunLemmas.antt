@@ -27,23 +27,24 @@ use Rattle.ua_conn.proofs.ClientEnd.RecordLemmas.{awaiting, fault_is_held, waiti
 pub record AtMostOne (cmds : Commands) (past : Past) : Type 0 where
   pub one : length (opening_in cmds past) ≤ 1
 
-opens_without : (id : ℕ) (ids : List ℕ) (xs : List OpenAsked) → filter (λ r. not (is_among (id ∷ ids) r.id)) xs ≡ filter (λ r. not (id == r.id)) (filter (λ r. not (is_among ids r.id)) xs)
-opens_without id ids [] = refl
-opens_without id ids (x ∷ xs) = by (id == x.id) (is_among ids x.id) refl (opens_without id ids xs)
+-- what is left of what has ids, without one id more
+pub without_more : {X : Type 0} (key : X → ℕ) (id : ℕ) (ids : List ℕ) (xs : List X) → filter (λ r. not (is_among (id ∷ ids) (key r))) xs ≡ filter (λ r. not (id == key r)) (filter (λ r. not (is_among ids (key r))) xs)
+without_more key id ids [] = refl
+without_more {X} key id ids (x ∷ xs) = by (id == key x) (is_among ids (key x)) refl (without_more key id ids xs)
   where
-    by : (b c : Bool) → (id == x.id) ≡ b → filter (λ r. not (is_among (id ∷ ids) r.id)) xs ≡ filter (λ r. not (id == r.id)) (filter (λ r. not (is_among ids r.id)) xs) →
-        cond (not (b || c)) (x ∷ filter (λ r. not (is_among (id ∷ ids) r.id)) xs) (filter (λ r. not (is_among (id ∷ ids) r.id)) xs)
-        ≡ filter (λ r. not (id == r.id)) (cond (not c) (x ∷ filter (λ r. not (is_among ids r.id)) xs) (filter (λ r. not (is_among ids r.id)) xs))
+    by : (b c : Bool) → (id == key x) ≡ b → filter (λ r. not (is_among (id ∷ ids) (key r))) xs ≡ filter (λ r. not (id == key r)) (filter (λ r. not (is_among ids (key r))) xs) →
+        cond (not (b || c)) (x ∷ filter (λ r. not (is_among (id ∷ ids) (key r))) xs) (filter (λ r. not (is_among (id ∷ ids) (key r))) xs)
+        ≡ filter (λ r. not (id == key r)) (cond (not c) (x ∷ filter (λ r. not (is_among ids (key r))) xs) (filter (λ r. not (is_among ids (key r))) xs))
     by true true e h = h
     by true false e h = rw e h
     by false true e h = h
-    by false false e h = rw e (ap (λ (l : List OpenAsked). x ∷ l) h)
+    by false false e h = rw e (ap (λ (l : List X). x ∷ l) h)
 
 pub opening_step : (cmds : Commands) (past : Past) (f : Frame) → opening_in cmds (f ∷ past) ≡ cond (is_open (kind_of f.bytes)) (filter (λ r. not (opening_id (open_in f) == r.id)) (opening_in cmds past)) (opening_in cmds past)
 opening_step cmds past f = by (is_open (kind_of f.bytes)) refl
   where
     by : (b : Bool) → is_open (kind_of f.bytes) ≡ b → opening_in cmds (f ∷ past) ≡ cond b (filter (λ r. not (opening_id (open_in f) == r.id)) (opening_in cmds past)) (opening_in cmds past)
-    by true e = rw e (opens_without (opening_id (open_in f)) (opened_ids past) (opens_asked cmds))
+    by true e = rw e (without_more (λ (r : OpenAsked). r.id) (opening_id (open_in f)) (opened_ids past) (opens_asked cmds))
     by false e = rw e refl
 
 pub shorter : (test : OpenAsked → Bool) (xs : List OpenAsked) → length (filter test xs) ≤ length xs
