@@ -46,3 +46,4 @@ pub mod BetweenServerLemmas
 pub mod BetweenClientLemmas
 pub mod BetweenRunLemmas
 pub mod BetweenCallLemmas
+pub mod ToldLemmas

@@ -4,6 +4,7 @@ use Rattle.ua_conn.specs.Conversing.{setup_of}
 use Rattle.ua_conn.specs.Story.{Story, begun}
 use Rattle.ua_conn.specs.declared.story.Story as declared
 use Rattle.ua_conn.proofs.BothEnds.BetweenRunLemmas.{story_is}
+use Rattle.ua_conn.proofs.BothEnds.ToldLemmas.{told_is, in_order, own, unrefused, whole}
 use Rattle.ua_conn.proofs.conversation.converse.Goals as goal
 
 pub returns-in-Ok-clause-asked : goal.returns-in-Ok-clause-asked
@@ -40,3 +41,23 @@ pub returns-in-Ok-clause-client_fault : goal.returns-in-Ok-clause-client_fault
 returns-in-Ok-clause-client_fault c =
     let s = setup_of c.args.setup.now in
     ap (λ (t : declared.Story). t.client_fault) c.into_story.ensures ∙ ap (λ (t : Story). t.client_fault) (story_is s c.args.schedule.now (run_of c.run.new.self) (c.in-Ok.ensures s (begun s) c.in_ok-ends.ensures))
+
+pub returns-in-Ok-clause-in_order : goal.returns-in-Ok-clause-in_order
+returns-in-Ok-clause-in_order c =
+    let s = setup_of c.args.setup.now in
+    in_order s c.args.schedule.now _ (told_is s c.args.schedule.now _ c.run.new.self c.into_story.ensures (c.in-Ok.ensures s (begun s) c.in_ok-ends.ensures)) c.setup_is_in_range.ensures c.schedule_is_valid.ensures
+
+pub returns-in-Ok-clause-own : goal.returns-in-Ok-clause-own
+returns-in-Ok-clause-own c =
+    let s = setup_of c.args.setup.now in
+    own s c.args.schedule.now _ (told_is s c.args.schedule.now _ c.run.new.self c.into_story.ensures (c.in-Ok.ensures s (begun s) c.in_ok-ends.ensures)) c.setup_is_in_range.ensures c.schedule_is_valid.ensures
+
+pub returns-in-Ok-clause-unrefused : goal.returns-in-Ok-clause-unrefused
+returns-in-Ok-clause-unrefused c =
+    let s = setup_of c.args.setup.now in
+    unrefused s c.args.schedule.now _ (told_is s c.args.schedule.now _ c.run.new.self c.into_story.ensures (c.in-Ok.ensures s (begun s) c.in_ok-ends.ensures)) c.setup_is_in_range.ensures c.schedule_is_valid.ensures
+
+pub returns-in-Ok-clause-whole : goal.returns-in-Ok-clause-whole
+returns-in-Ok-clause-whole c =
+    let s = setup_of c.args.setup.now in
+    whole s c.args.schedule.now _ (told_is s c.args.schedule.now _ c.run.new.self c.into_story.ensures (c.in-Ok.ensures s (begun s) c.in_ok-ends.ensures)) c.setup_is_in_range.ensures c.schedule_is_valid.ensures

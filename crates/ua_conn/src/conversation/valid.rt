@@ -1,0 +1,47 @@
+//! What the types of a setup and of a schedule say of them: their texts are UTF-8, and their numbers fit.
+
+ghost use Rattle.std.specs.Prelude.{◌≡◌, ◌≤◌, ◌<◌, false};
+ghost use Rattle.ua_frame.specs.Hello.{is_long};
+ghost use Rattle.ua_conn.specs.BothEnds.{IsConfig, IsSchedule, IsSetup, IsStep};
+ghost use Rattle.ua_conn.specs.Conversing.{setup_of};
+
+use crate::moment::moment_of;
+use crate::schedule::Step;
+use crate::story::Setup;
+use ua_service::Body;
+use ua_value::Wire;
+
+/// A setup that meets what `converse` asks for is in all its ranges.
+pub(crate) fn setup_is_in_range(setup: &Setup)
+    requires channel { 0 < setup.now.channel_id }
+    requires config { IsConfig setup.now.config }
+    requires url { is_long setup.now.url.now ≡ false }
+    requires first_least { 1 ≤ setup.now.first_sequence }
+    requires first_most { setup.now.first_sequence ≤ 4294966272 }
+    ensures { IsSetup (setup_of setup.now) }
+{
+    let _settings = setup.settings.limits();
+    let _channel = setup.channel_id;
+    let _url = setup.url.len();
+    let _start = moment_of(setup.start);
+}
+
+fn step_is_valid(step: &Step)
+    ensures { IsStep step.now }
+{
+    match step {
+        Step::Ask(request, _) => {
+            let _len = request.body_len();
+        }
+        Step::Renew | Step::Close | Step::Tick(_) | Step::Up(_) | Step::Down(_) => {}
+    }
+}
+
+/// Each request that is asked is a value.
+pub(crate) fn schedule_is_valid(schedule: &[Step])
+    ensures { IsSchedule schedule.now }
+{
+    for step in schedule {
+        step_is_valid(step);
+    }
+}
