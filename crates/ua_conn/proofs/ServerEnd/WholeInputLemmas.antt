@@ -48,15 +48,6 @@ goes_on site ps i d reply reply' asked asked' more old new l a f q =
       hands = q ∙ ap (λ o. o ++ more) a.hands ∙ sym b.hands;
     })
 
--- and its requests are not kept
-pub goes_on_unkept : (site : Site) (ps : List Entry) (i : ℕ) (d : Entry) (reply reply' : List ℕ) (more : List Request) (old new : Shown) → i < length ps →
-    Answering site (pieces_of (take i ps)) reply (handed site (timed (pieces_of (take i ps)))) old → FeedsAll old (piece_of (get_or ps i d)) reply reply' more None new →
-    Answering site (pieces_of (take (i + 1) ps)) reply' (handed site (timed (pieces_of (take (i + 1) ps)))) new
-goes_on_unkept site ps i d reply reply' more old new l a f =
-    let kept = handed site (timed (pieces_of (take i ps))) in
-    let b = goes_on site ps i d reply reply' kept (kept ++ more) more old new l a f refl in
-    record { goes_on = b.goes_on; shows = b.shows; replied = b.replied; hands = refl }
-
 -- an end to which a server comes by itself is the end
 stop_is : (ending e : End) → stop ending ≡ Some e → e ≡ ending
 stop_is Closed e h = cc

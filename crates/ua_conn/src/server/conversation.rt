@@ -1,6 +1,6 @@
 //! A whole connection, from the client's bytes to the server's.
 
-ghost use Rattle.std.specs.Prelude.{◌≡◌, ◌<◌, ◌++◌, [], List, IfOk};
+ghost use Rattle.std.specs.Prelude.{◌≡◌, ◌<◌, ◌++◌, [], List, IfOk, OnOk};
 ghost use Rattle.ua_frame.specs.Streams.{moment_of as counted, pieces_of, timed};
 ghost use Rattle.ua_service.specs.declared.request.Request.{Request as Asked};
 ghost use Rattle.ua_conn.specs.server.Site.{Site};
@@ -9,28 +9,71 @@ ghost use Rattle.ua_conn.specs.server.Replies as replies;
 ghost use Rattle.ua_conn.specs.server.Feeding.{FeedsAll, Answering};
 
 use crate::outcome::{End, Outcome};
-use crate::server::Server;
+use crate::server::{Fed, Server};
 use std::alloc::{AllocError, Global};
 use ua_disco::Settings;
 use ua_service::Request;
 use ua_value::NoMemory;
 use ua_value::plumbing::let_go;
 
+/// What becomes of the requests that a server hands on.
+trait Requests: Drop {
+    // these are all that were handed on, as far as they are kept
+    ghost keeps: { Self → List Asked → Type 0 };
+
+    /// Takes those of one more piece.
+    ///
+    /// # Errors
+    ///
+    /// `NoMemory` where a growth was refused.
+    fn take(&mut self, more: Vec<Request>) -> Result<(), NoMemory>
+        ensures { OnOk result ((asked : List Asked) → keeps self.old asked → keeps self.new (asked ++ more.items)) };
+}
+
+/// All requests, in their order.
+#[derive(Drop)]
+struct Kept {
+    requests: Vec<Request>,
+}
+
+impl Requests for Kept {
+    ghost keeps = { λ k asked. k.requests.items ≡ asked };
+
+    fn take(&mut self, more: Vec<Request>) -> Result<(), NoMemory> {
+        let mut more = more;
+        let taken = self.requests.append(&mut more);
+        let_go(more);
+        taken
+    }
+}
+
+/// No request: those of a piece go with it.
+#[derive(Drop)]
+struct LetGo;
+
+impl Requests for LetGo {
+    ghost keeps = { λ _ _. Unit {0} };
+
+    fn take(&mut self, more: Vec<Request>) -> Result<(), NoMemory> {
+        let_go(more);
+        Ok(())
+    }
+}
+
 /// Answers one more piece. The result is the end that it brings, if any.
-fn answer_piece(
+fn answer_piece<T: Requests>(
     server: &mut Server,
     now: i64,
     piece: &[u8],
     reply: &mut Vec<u8>,
-    handed: &mut Vec<Request>,
+    handed: &mut T,
 ) -> Result<Option<End>, NoMemory>
-    ensures { IfOk result (λ end. (asked : List Asked) × (handed.new.items ≡ handed.old.items ++ asked)
+    ensures { IfOk result (λ end. (asked : List Asked) × ((before : List Asked) → T.keeps handed.old before → T.keeps handed.new (before ++ asked))
         × FeedsAll server.old (record { moment = counted now; bytes = piece.now }) reply.old.items reply.new.items asked end server.new) }
 {
     match server.feed(now, piece, reply) {
-        Ok(mut fed) => {
-            let end = fed.end;
-            handed.append(&mut fed.requests)?;
+        Ok(Fed { requests, end }) => {
+            handed.take(requests)?;
             Ok(end)
         }
         // No piece follows an end, so the only fault is want of memory.
@@ -39,62 +82,21 @@ fn answer_piece(
 }
 
 /// Answers the pieces, up to the first that brings an end. The result is how the connection ended.
-fn answer_pieces(
+fn answer_pieces<T: Requests>(
     server: &mut Server,
     pieces: &[(i64, &[u8])],
     reply: &mut Vec<u8>,
-    handed: &mut Vec<Request>,
+    handed: &mut T,
 ) -> Result<End, NoMemory>
-    ensures reply { IfOk result (λ _. (site : Site) → Answering site [] reply.old.items handed.old.items server.old →
+    ensures reply { IfOk result (λ _. (site : Site) (asked : List Asked) → T.keeps handed.old asked → Answering site [] reply.old.items asked server.old →
         reply.new.items ≡ reply_bytes site (timed (pieces_of pieces.now))) }
-    ensures handed { IfOk result (λ _. (site : Site) → Answering site [] reply.old.items handed.old.items server.old →
-        handed.new.items ≡ replies.handed site (timed (pieces_of pieces.now))) }
-    ensures end { IfOk result (λ end. (site : Site) → Answering site [] reply.old.items handed.old.items server.old →
+    ensures handed { IfOk result (λ _. (site : Site) (asked : List Asked) → T.keeps handed.old asked → Answering site [] reply.old.items asked server.old →
+        T.keeps handed.new (replies.handed site (timed (pieces_of pieces.now)))) }
+    ensures end { IfOk result (λ end. (site : Site) (asked : List Asked) → T.keeps handed.old asked → Answering site [] reply.old.items asked server.old →
         end ≡ end_of site (timed (pieces_of pieces.now))) }
 {
     'pieces: for &(now, piece) in pieces {
         if let Some(end) = answer_piece(server, now, piece, reply, handed)? {
-            return Ok(end);
-        }
-    }
-    Ok(server.end_of_input())
-}
-
-/// Answers one more piece, and lets its requests go. The result is the end that it brings, if any.
-fn reply_piece(
-    server: &mut Server,
-    now: i64,
-    piece: &[u8],
-    reply: &mut Vec<u8>,
-) -> Result<Option<End>, NoMemory>
-    ensures { IfOk result (λ end. (asked : List Asked)
-        × FeedsAll server.old (record { moment = counted now; bytes = piece.now }) reply.old.items reply.new.items asked end server.new) }
-{
-    match server.feed(now, piece, reply) {
-        Ok(fed) => {
-            let end = fed.end;
-            let_go(fed);
-            Ok(end)
-        }
-        // No piece follows an end, so the only fault is want of memory.
-        Err(_) => Err(AllocError),
-    }
-}
-
-/// Answers the pieces, up to the first that brings an end, and keeps no request of them. The result is how the
-/// connection ended.
-fn reply_pieces(
-    server: &mut Server,
-    pieces: &[(i64, &[u8])],
-    reply: &mut Vec<u8>,
-) -> Result<End, NoMemory>
-    ensures reply { IfOk result (λ _. (site : Site) → Answering site [] reply.old.items [] server.old →
-        reply.new.items ≡ reply_bytes site (timed (pieces_of pieces.now))) }
-    ensures end { IfOk result (λ end. (site : Site) → Answering site [] reply.old.items [] server.old →
-        end ≡ end_of site (timed (pieces_of pieces.now))) }
-{
-    'pieces: for &(now, piece) in pieces {
-        if let Some(end) = reply_piece(server, now, piece, reply)? {
             return Ok(end);
         }
     }
@@ -127,11 +129,17 @@ pub fn answer_all(
 {
     let mut server = Server::new(alloc, settings, channel_id)?;
     let mut reply = Vec::new(alloc);
-    let mut handed = Vec::new(alloc);
+    let mut handed = Kept {
+        requests: Vec::new(alloc),
+    };
     let answered = answer_pieces(&mut server, pieces, &mut reply, &mut handed);
     let_go(server);
     match answered {
-        Ok(end) => Ok(Outcome { reply, handed, end }),
+        Ok(end) => Ok(Outcome {
+            reply,
+            handed: handed.requests,
+            end,
+        }),
         Err(e) => {
             let_go((reply, handed));
             Err(e)
@@ -160,7 +168,8 @@ pub fn reply_all(
 {
     let mut server = Server::new(alloc, settings, channel_id)?;
     let mut reply = Vec::new(alloc);
-    let replied = reply_pieces(&mut server, pieces, &mut reply);
+    let mut handed = LetGo;
+    let replied = answer_pieces(&mut server, pieces, &mut reply, &mut handed);
     let_go(server);
     match replied {
         Ok(end) => Ok((reply, end)),

@@ -1,8 +1,10 @@
-use Rattle.std.proofs.Common.{[], take}
+use Rattle.std.proofs.Common.{[], List, take}
 use Rattle.ua_frame.specs.Streams.{pieces_of}
+use Rattle.ua_service.specs.declared.request.Request.{Request}
 use Rattle.ua_conn.specs.server.Site.{Site}
 use Rattle.ua_conn.specs.server.Feeding.{Answering}
 use Rattle.ua_conn.proofs.server.conversation.answer_pieces.Given as goal
 
 abbrev pub invariant-pieces : goal.invariant-pieces
-invariant-pieces l = (site : Site) → Answering site [] l.fn.reply.items l.fn.handed.items l.fn.server → Answering site (pieces_of (take l.now-index l.pieces)) l.reply.items l.handed.items l.server
+invariant-pieces g l = (site : Site) (before : List Request) → g.T.Requests.keeps l.fn.handed before → Answering site [] l.fn.reply.items before l.fn.server →
+    (asked : List Request) × g.T.Requests.keeps l.handed asked × Answering site (pieces_of (take l.now-index l.pieces)) l.reply.items asked l.server
