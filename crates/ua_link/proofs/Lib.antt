@@ -1,3 +1,4 @@
+pub mod ClockLemmas
 pub mod ReadLemmas
 pub mod EndLemmas
 pub mod TurnLemmas

@@ -1,7 +1,8 @@
 -- One turn of a client over a link: its output is sent, then a read, and what the client makes of it.
-use Rattle.std.specs.Prelude.{◌≡◌, ℕ, ◌+◌, ◌≤◌, ℤ, true, List, [], take, drop, length, ◌⊎◌}
+use Rattle.std.specs.Prelude.{◌≡◌, ℕ, ◌+◌, ◌≤◌, ℤ, true, List, [], ◌∷◌, take, drop, length, Option, ◌⊎◌}
 use Rattle.std.specs.Io.KnownBytes.{Appends, Consumes, Keeps, IsAtEnd}
 use Rattle.ua_conn.specs.client.Feeding.{ClientShown, HandsAll, FailsAll}
+use Rattle.ua_link.specs.Clock.{Answered}
 use Rattle.ua_link.specs.Reads.{piece_at}
 use Rattle.ua_link.specs.Turns.{Seen}
 use Rattle.ua_link.specs.declared.client_turn.ClientTurn.{ClientTurn}
@@ -57,11 +58,11 @@ client_faults (Fault fault) n = n
 client_faults InputEnded n = n
 client_faults LinkFailed n = n + 1
 
--- Answers and a fault are those of the client for the bytes that came.
-abbrev pub ClientTurns : ClientShown → ClientShown → Seen → Seen → ClientTurn → Type 0
-ClientTurns old new before after (Answers answers) =
-    (now : ℤ) × (bytes : List ℕ) × Fed old before after now bytes × HandsAll (silent old) (piece_at now bytes) new answers.items
-ClientTurns old new before after (Fault fault) =
-    (now : ℤ) × (bytes : List ℕ) × Fed old before after now bytes × FailsAll (silent old) (piece_at now bytes) new fault × (new.failed ≡ true)
-ClientTurns old new before after InputEnded = AtEnd old new before after
-ClientTurns old new before after LinkFailed = Broken old new before after ⊎ Deaf old new before after
+-- Answers and a fault are those of the client for the bytes that came, at the one moment that the clock answered.
+abbrev pub ClientTurns : ClientShown → ClientShown → Seen → Seen → Option (List ℤ) → Option (List ℤ) → ClientTurn → Type 0
+ClientTurns old new before after clock clock' (Answers answers) =
+    (now : ℤ) × (bytes : List ℕ) × Answered clock clock' (now ∷ []) × Fed old before after now bytes × HandsAll (silent old) (piece_at now bytes) new answers.items
+ClientTurns old new before after clock clock' (Fault fault) =
+    (now : ℤ) × (bytes : List ℕ) × Answered clock clock' (now ∷ []) × Fed old before after now bytes × FailsAll (silent old) (piece_at now bytes) new fault × (new.failed ≡ true)
+ClientTurns old new before after clock clock' InputEnded = AtEnd old new before after
+ClientTurns old new before after clock clock' LinkFailed = Broken old new before after ⊎ Deaf old new before after

@@ -1,5 +1,5 @@
 -- The bytes that a link gave, by the reads that gave them.
-use Rattle.std.specs.Prelude.{◌≡◌, ℕ, ◌+◌, ◌<◌, ℤ, List, [], ◌∷◌, ◌++◌, take, drop}
+use Rattle.std.specs.Prelude.{◌≡◌, ℕ, ◌+◌, ◌<◌, ℤ, List, [], ◌∷◌, ◌++◌, take, drop, Option, Some, None}
 use Rattle.ua_frame.specs.Streams.{Piece, moment_of}
 
 -- what the clock said after a read, and how many bytes came
@@ -13,6 +13,16 @@ piece_at now bytes = record { moment = moment_of now; bytes = bytes }
 abbrev pub total : List Cut → ℕ
 total [] = 0
 total (c ∷ cs) = c.1 + total cs
+
+-- the moment of a read, where it did not fail
+abbrev pub moment_of_read : Option Cut → List ℤ
+moment_of_read None = []
+moment_of_read (Some c) = c.0 ∷ []
+
+-- the moments of all reads
+abbrev pub moments : List Cut → List ℤ
+moments [] = []
+moments (c ∷ cs) = c.0 ∷ moments cs
 
 -- the pieces in which some bytes came
 abbrev pub pieces_by : List Cut → List ℕ → List Piece

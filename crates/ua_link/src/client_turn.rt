@@ -68,7 +68,7 @@ pub fn pump_client<L: Link, C: Clock>(
     requires { L.fault_count link.old < 2 ^ 64 - 1 }
     ensures turns { let before : Seen = record { input = L.input link.old; output = L.output link.old; faults = L.fault_count link.old } in
         let after : Seen = record { input = L.input link.new; output = L.output link.new; faults = L.fault_count link.new } in
-        client.old.failed ≡ false → ClientTurns client.old client.new before after result }
+        client.old.failed ≡ false → ClientTurns client.old client.new before after (C.answered clock.old) (C.answered clock.new) result }
     ensures counted { L.fault_count link.new ≡ client_faults result (L.fault_count link.old) }
 {
     let Ok(()) = send_output(client, link) else {

@@ -1,7 +1,7 @@
 //! Moments: ticks of 100 ns since 1601-01-01 UTC. OPC 10000-6, 5.2.2.5.
 
-ghost use Rattle.std.specs.Prelude.{◌≡◌, ◌+◌, ◌/◌};
-ghost use Rattle.ua_link.specs.Clock.{moment_after};
+ghost use Rattle.std.specs.Prelude.{◌≡◌, ◌+◌, ◌/◌, ℤ, List, [], ◌∷◌, Option, None};
+ghost use Rattle.ua_link.specs.Clock.{Answered, moment_after};
 
 use std::rt::Clock as HostClock;
 use std::time::{SystemTime, UNIX_EPOCH};
@@ -14,8 +14,12 @@ const TICK: u128 = 100;
 
 /// What says the moment.
 pub trait Clock {
+    /// What `now` answered so far, in its order, where that is known: a clock may keep no record, or lose it.
+    ghost answered: { Self → Option (List ℤ) } = { λ _. None };
+
     /// The moment, in ticks of 100 ns since 1601-01-01 UTC. It may go back.
-    fn now(&mut self) -> i64;
+    fn now(&mut self) -> i64
+        ensures { Answered (answered self.old) (answered self.new) (result ∷ []) };
 }
 
 /// The host's clock, or 0 where it gives no moment.

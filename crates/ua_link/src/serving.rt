@@ -2,6 +2,8 @@
 
 ghost use Rattle.std.specs.Prelude.{◌≡◌, ◌-◌, ◌<◌, ◌≤◌, ◌^◌, ◌++◌, drop, replicate, vec_len, vec_capacity, IfSome};
 ghost use Rattle.ua_conn.specs.server.Site.{Site};
+ghost use Rattle.ua_link.specs.Clock.{Answered};
+ghost use Rattle.ua_link.specs.Reads.{moments};
 ghost use Rattle.ua_link.specs.Turns.{Seen};
 ghost use Rattle.ua_link.specs.Reports.{Served, cuts_with};
 
@@ -61,7 +63,8 @@ pub fn serve_connection<L: Link, C: Clock>(
 ) -> Report
     requires channel { 0 < id }
     requires countable { L.fault_count link.old < 2 ^ 64 - 1 }
-    ensures { let site : Site = record { settings = settings.now; channel = id } in
+    ensures asked { Answered (C.answered clock.old) (C.answered clock.new) (moments result.cuts.items) }
+    ensures served { let site : Site = record { settings = settings.now; channel = id } in
         let before : Seen = record { input = L.input link.old; output = L.output link.old; faults = L.fault_count link.old } in
         let after : Seen = record { input = L.input link.new; output = L.output link.new; faults = L.fault_count link.new } in
         Served site turns before after result.end result.cuts.items result.written }

@@ -1,6 +1,9 @@
 //! One turn of a server over a link.
 
 ghost use Rattle.std.specs.Prelude.{◌≡◌, ◌-◌, ◌<◌, ◌≤◌, ◌^◌, [], false, length, Some, IfSome};
+ghost use Rattle.std.specs.Prelude.{◌≡◌, ◌-◌, ◌<◌, ◌≤◌, ◌^◌, [], false, length, Some};
+ghost use Rattle.ua_link.specs.Clock.{Answered};
+ghost use Rattle.ua_link.specs.Reads.{moment_of_read};
 ghost use Rattle.ua_link.specs.Turns.{Seen, HearsAll, Turns};
 
 use crate::clock::Clock;
@@ -93,9 +96,10 @@ pub fn pump<L: Link, C: Clock>(
 ) -> Turn
     requires going { server.old.failed ≡ false }
     requires countable { L.fault_count link.old < 2 ^ 64 - 1 }
-    ensures { let before : Seen = record { input = L.input link.old; output = L.output link.old; faults = L.fault_count link.old } in
+    ensures turns { let before : Seen = record { input = L.input link.old; output = L.output link.old; faults = L.fault_count link.old } in
         let after : Seen = record { input = L.input link.new; output = L.output link.new; faults = L.fault_count link.new } in
         Turns server.old server.new before after result }
+    ensures asked { Answered (C.answered clock.old) (C.answered clock.new) (moment_of_read result.cut) }
 {
     let mut room = [0u8; MOST_READ];
     turn_in(alloc, server, link, clock, &mut room)
@@ -115,6 +119,7 @@ pub(crate) fn turn_in<L: Link, C: Clock>(
         let after : Seen = record { input = L.input link.new; output = L.output link.new; faults = L.fault_count link.new } in
         Turns server.old server.new before after result }
     ensures within { IfSome result.cut (λ cut. cut.1 ≤ 4096) }
+    ensures asked { Answered (C.answered clock.old) (C.answered clock.new) (moment_of_read result.cut) }
 {
     let Ok(n) = link.recv(room) else {
         return Turn::ended(alloc, None, End::LinkFailed);

@@ -1,5 +1,7 @@
 use Rattle.std.proofs.Common.{◌≡◌, ◌≤◌, ◌*◌, ◌^◌, length}
 use Rattle.ua_conn.specs.server.Site.{Site}
+use Rattle.ua_link.specs.Clock.{Answered}
+use Rattle.ua_link.specs.Reads.{moments}
 use Rattle.ua_link.specs.Turns.{Seen}
 use Rattle.ua_link.specs.Reports.{Serving}
 use Rattle.ua_link.proofs.serving.serve_connection.Given as goal
@@ -13,4 +15,5 @@ invariant-turns g l =
       entries : length l.cuts.items ≡ l.counter;
       bound : l.written ≤ l.counter * 2 ^ 64;
       serving : Serving site l.server l.cuts.items l.written before now;
+      asked : Answered (g.C.Clock.answered l.fn.clock) (g.C.Clock.answered l.clock) (moments l.cuts.items);
     }

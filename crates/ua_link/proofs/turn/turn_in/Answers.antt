@@ -2,7 +2,10 @@ use Rattle.std.proofs.Common.{rules, w64, ◌≡◌, ◌∙◌, arith, length, t
 use Rattle.std.proofs.lemmas.Int.{to_z-of_z}
 use mir.Val.{SFits}
 use Rattle.std.specs.Io.KnownBytes.{Consumes, IsAtEnd}
+use Rattle.ua_link.specs.Clock.{Answered}
+use Rattle.ua_link.specs.Reads.{moment_of_read}
 use Rattle.ua_link.specs.Turns.{Seen}
+use Rattle.ua_link.proofs.ClockLemmas.{not_asked}
 use Rattle.ua_link.proofs.TurnLemmas.{heard_since, none_read}
 use Rattle.ua_link.proofs.turn.turn_in.Goals as goal
 
@@ -17,6 +20,16 @@ returns-in_default-clause-turns g c = inl (record {
   output = c.recv.ensures.kept;
   counted = c.in_default.ensures.counted;
 })
+
+pub returns-in_default-clause-asked : goal.returns-in_default-clause-asked
+returns-in_default-clause-asked g c = subst (λ cut. Answered (g.C.Clock.answered c.args.clock.now) (g.C.Clock.answered c.args.clock.now) (moment_of_read cut)) (sym c.ended.ensures.cut)
+    (not_asked (g.C.Clock.answered c.args.clock.now))
+
+pub returns-clause-asked : goal.returns-clause-asked
+returns-clause-asked g c =
+    let fits : SFits w64 c.now-now.result = search rules in
+    let cut = simp to_z-of_z at c.answer.ensures.cut in
+    subst (λ cut. Answered (g.C.Clock.answered c.args.clock.now) (g.C.Clock.answered c.now-now.new.self) (moment_of_read cut)) (sym cut) c.now-now.ensures
 
 pub returns-clause-turns : goal.returns-clause-turns
 returns-clause-turns g c =
