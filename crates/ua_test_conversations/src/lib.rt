@@ -55,6 +55,8 @@ mod many;
 #[cfg(test)]
 mod memory;
 #[cfg(test)]
+mod moments;
+#[cfg(test)]
 mod refusals;
 #[cfg(test)]
 mod rounds;
