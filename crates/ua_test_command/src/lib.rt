@@ -20,6 +20,7 @@ mod link_words;
 mod memory;
 #[cfg(test)]
 mod parts;
+mod moments;
 #[cfg(test)]
 mod runs;
 #[cfg(test)]
