@@ -11,6 +11,8 @@ mod asking;
 #[cfg(test)]
 mod blocks;
 #[cfg(test)]
+mod both_ends;
+#[cfg(test)]
 mod failures;
 #[cfg(test)]
 mod hex_digits;
