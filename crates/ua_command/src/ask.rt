@@ -1,6 +1,6 @@
 //! The command `ask`: asks a server over TCP for the servers that it knows, or for its endpoints.
 
-ghost use Rattle.std.specs.Prelude.{◌≡◌, ◌⊎◌, ◌<◌, ◌≤◌, ◌-◌, ◌^◌, length, None, Some, IfOk, IfErr, MatchOption};
+ghost use Rattle.std.specs.Prelude.{◌≡◌, ◌⊎◌, ◌<◌, ◌≤◌, ◌-◌, ◌^◌, length, None, Some, IsOk, IfOk, IfErr, MatchOption, MatchResult};
 ghost use Rattle.ua_command.specs.Ask.{IsAskStatus, IsTalkStop};
 ghost use Rattle.ua_command.specs.Command.{AreQuestionNames, name_of_question};
 ghost use Rattle.ua_command.specs.declared.ask.Question.{Question};
@@ -11,7 +11,8 @@ use crate::ask::lines::{Outcome, lines_of};
 use crate::run::told;
 use crate::stop::{Stop, print};
 use std::alloc::{AllocError, Global};
-use std::io::Write;
+use std::io;
+use std::io::{Read, Write};
 use std::net::{Net, TcpStream};
 use std::rt::Clock as HostClock;
 use ua_conn::{Answer, AnswerResult, AskFault, Client, ClientConfig, ClientFault};
@@ -340,6 +341,43 @@ pub fn ask_over<L: Link, C: Clock, O: Write, E: Write>(
     }
 }
 
+/// Asks the server at the other end of a stream. `Link` says that there is no stream, and nothing else is said of that.
+fn ask_at<R, S, O, E>(
+    rt: &R,
+    stream: io::Result<S>,
+    question: Question,
+    url: &str,
+    output: &mut O,
+    errors: &mut E,
+) -> Result<u8, Stop>
+where
+    R: HostClock + AllocGlobal,
+    S: Read + Write + Drop,
+    O: Write,
+    E: Write,
+    requires { length url.now ≤ 4095 }
+    ensures reached { MatchResult stream (λ _. IsOk result) (λ _. result ≡ Err Stop.Link) }
+    ensures ok { IfOk result IsAskStatus }
+    ensures err { IfErr result (λ stop. stop ≡ Stop.Link) }
+    ensures quiet { IfErr result (λ _. O.contents output.new ≡ O.contents output.old) }
+    ensures untold { IfErr result (λ _. E.contents errors.new ≡ E.contents errors.old) }
+{
+    let Ok(stream) = stream else {
+        return Err(Stop::Link);
+    };
+    let mut link = TcpLink::new(stream);
+    let mut clock = MachineClock::new(rt);
+    Ok(ask_over(
+        rt.alloc(),
+        &mut link,
+        &mut clock,
+        question,
+        url,
+        output,
+        errors,
+    ))
+}
+
 /// Connects to the address, and asks the server there. `Link` says that nobody listens at the address, and nothing is
 /// printed then.
 pub fn ask<R, O, E>(
@@ -360,18 +398,6 @@ where
     ensures quiet { IfErr result (λ _. O.contents output.new ≡ O.contents output.old) }
     ensures untold { IfErr result (λ _. E.contents errors.new ≡ E.contents errors.old) }
 {
-    let Ok(stream) = TcpStream::connect(rt, address) else {
-        return Err(Stop::Link);
-    };
-    let mut link = TcpLink::new(stream);
-    let mut clock = MachineClock::new(rt);
-    Ok(ask_over(
-        rt.alloc(),
-        &mut link,
-        &mut clock,
-        question,
-        url,
-        output,
-        errors,
-    ))
+    let stream = TcpStream::connect(rt, address);
+    ask_at(rt, stream, question, url, output, errors)
 }

@@ -1,12 +1,13 @@
 //! The command `serve`: serves connections over TCP, one after the other.
 
-ghost use Rattle.std.specs.Prelude.{◌≡◌, ◌<◌, IfOk, IfErr};
+ghost use Rattle.std.specs.Prelude.{◌≡◌, ◌<◌, IsOk, IfOk, IfErr, MatchResult};
 ghost use Rattle.ua_command.specs.Serve.{IsServeStatus, IsServeStop, IsServingStop, Serves};
 
 use crate::answer::Ending;
 use crate::run::told;
 use crate::settings::{Source, settings_in};
 use crate::stop::{Stop, print};
+use std::io;
 use std::io::{Read, Write};
 use std::net::{Net, OpenListener, TcpListener};
 use std::rt::{Clock, Files};
@@ -61,7 +62,7 @@ fn serve_stream<R: Clock + AllocGlobal, S: Read + Write + Drop>(
 
 /// Prints the line of a connection at once.
 fn print_line<O: Write>(output: &mut O, served: Served) -> Result<(), Stop>
-    ensures { IfErr result IsServingStop }
+    ensures { IfErr result (λ stop. stop ≡ Stop.File) }
 {
     let Served {
         id,
@@ -159,25 +160,28 @@ fn tell_address<L: OpenListener, E: Write>(listener: &L, errors: &mut E) {
     }
 }
 
-/// Listens at the address, and serves there. `Link` says that nothing can listen at it.
-fn serve_at<R, O, E>(
+/// Tells where the listener listens, and serves there. `Link` says that there is none, and nothing else is said of that.
+fn serve_at<R, L, O, E>(
     rt: &R,
     settings: &Settings,
-    address: &str,
+    listener: io::Result<L>,
     connections: u16,
     output: &mut O,
     errors: &mut E,
 ) -> Result<u8, Stop>
 where
-    R: Net + Clock + AllocGlobal,
+    R: Clock + AllocGlobal,
+    L: OpenListener + Drop,
+    L::Stream: Read + Write,
     O: Write,
     E: Write,
+    ensures bound { MatchResult listener (λ _. IsOk result) (λ _. result ≡ Err Stop.Link) }
     ensures ok { IfOk result IsServeStatus }
     ensures err { IfErr result (λ stop. stop ≡ Stop.Link) }
     ensures quiet { IfErr result (λ _. O.contents output.new ≡ O.contents output.old) }
     ensures untold { IfErr result (λ _. E.contents errors.new ≡ E.contents errors.old) }
 {
-    let Ok(listener) = TcpListener::bind(rt, address) else {
+    let Ok(listener) = listener else {
         return Err(Stop::Link);
     };
     tell_address(&listener, errors);
@@ -206,7 +210,8 @@ where
     ensures untold { IfErr result (λ _. E.contents errors.new ≡ E.contents errors.old) }
 {
     let settings = settings_in(rt, source)?;
-    let served = serve_at(rt, &settings, address, connections, output, errors);
+    let listener = TcpListener::bind(rt, address);
+    let served = serve_at(rt, &settings, listener, connections, output, errors);
     let_go(settings);
     served
 }
