@@ -21,8 +21,9 @@ mod link_words;
 #[cfg(test)]
 mod memory;
 #[cfg(test)]
-mod parts;
 mod moments;
+#[cfg(test)]
+mod parts;
 #[cfg(test)]
 mod runs;
 #[cfg(test)]
