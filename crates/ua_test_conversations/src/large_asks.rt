@@ -48,13 +48,15 @@ const ROWS: [Row; 24] = [
     (1_048_576, 0, 1_048_552, 1_048_577, None),
 ];
 
-/// A request of another service of so many bytes, no two of which beside one another are alike.
+/// What bodies are filled with: 31 bytes, so that no part begins as the one before it.
+const FILLING: &[u8; 31] = b"0123456789abcdefghijklmnopqrstu";
+
+/// A request of another service of so many bytes.
 fn body_of(alloc: Global, len: usize) -> Result<Vec<u8>, AllocError> {
     let mut body = OTHER_BODY.to_vec(alloc)?;
-    let mut byte = 0u8;
-    for _ in OTHER_BODY.len()..len {
-        byte = byte.wrapping_add(7);
-        body.push(byte)?;
+    for _ in 0..len / 31 + 1 {
+        let left = len.saturating_sub(body.len());
+        body.extend_from_slice(&FILLING[..left.min(31)])?;
     }
     Ok(body)
 }
