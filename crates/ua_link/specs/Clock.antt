@@ -1,5 +1,5 @@
 -- Moments: what a clock answered, and those by a clock that counts from 1970.
-use Rattle.std.specs.Prelude.{◌≡◌, ℕ, ◌+◌, ◌/◌, ◌^◌, ℤ, pos, nat_lt, if◌then◌else◌, List, ◌++◌, ⊤, ⊥, Option, Some, None}
+use Rattle.std.specs.Prelude.{◌≡◌, ℕ, ◌+◌, ◌/◌, ◌^◌, ℤ, pos, nat_lt, if◌then◌else◌, List, ◌++◌, ⊤, Option, Some, None}
 
 -- The clock answered these moments, in this order, and was asked no more. What it answered may be known, until it keeps
 -- no record of it any more.
