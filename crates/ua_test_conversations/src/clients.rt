@@ -89,6 +89,9 @@ fn refusal<T: Drop>(asked: Result<u32, (AskFault, T)>) -> Result<u32, AskFault> 
     }
 }
 
+/// More bytes than any body has here.
+const MOST_BODY: usize = 2_000_000;
+
 /// Asks the request with this body in parts of so many bytes: its id, or why not; none where it could not be made.
 pub(crate) fn asks_for(
     alloc: Global,
@@ -96,6 +99,9 @@ pub(crate) fn asks_for(
     body: &[u8],
     part_limit: u32,
 ) -> Option<Result<u32, AskFault>> {
+    if body.len() > MOST_BODY {
+        return None;
+    }
     match read_request(alloc, body) {
         Ok(request) => Some(refusal(client.ask(0, request, part_limit))),
         Err(_) => None,
