@@ -11,8 +11,6 @@ mod asking;
 #[cfg(test)]
 mod blocks;
 #[cfg(test)]
-mod both_ends;
-#[cfg(test)]
 mod failures;
 #[cfg(test)]
 mod hex_digits;

@@ -12,15 +12,10 @@ use ua_disco::DEFAULT;
 /// Digits in pieces of so many, with a text behind each.
 fn cut(alloc: Global, digits: &[u8], width: usize, behind: &[u8]) -> Result<Vec<u8>, AllocError> {
     let mut text = Vec::new(alloc);
-    let mut rest = digits;
-    while rest.len() > width {
-        let (piece, after) = rest.split_at(width);
+    for piece in digits.chunks(width.max(1)) {
         text.extend_from_slice(piece)?;
         text.extend_from_slice(behind)?;
-        rest = after;
     }
-    text.extend_from_slice(rest)?;
-    text.extend_from_slice(behind)?;
     Ok(text)
 }
 

@@ -35,36 +35,29 @@ impl Clock for StoppedClock {
     }
 }
 
-/// Whether the bytes are these parts, one behind another, and nothing else.
-fn are_joined(bytes: &[u8], parts: &[&[u8]]) -> bool {
-    let mut rest = bytes;
-    for part in parts {
-        match rest.strip_prefix(*part) {
-            Some(more) => rest = more,
-            None => return false,
-        }
-    }
-    rest.is_empty()
+/// What stands behind a Hello, an open request, a request of this type and a close request, each but the first of this moment.
+fn behind_calls(sent: &[u8], moment: i64, of_type: u8) -> Option<&[u8]> {
+    let moment = moment.to_le_bytes();
+    sent.strip_prefix(HELLO)?
+        .strip_prefix(OPENING)?
+        .strip_prefix(moment.as_slice())?
+        .strip_prefix(LASTING_AN_HOUR)?
+        .strip_prefix(&FIND_REQUEST[..26])?
+        .strip_prefix([of_type].as_slice())?
+        .strip_prefix(&FIND_REQUEST[27..30])?
+        .strip_prefix(moment.as_slice())?
+        .strip_prefix(&FIND_REQUEST[38..])?
+        .strip_prefix(&CLOSE_REQUEST[..30])?
+        .strip_prefix(moment.as_slice())?
+        .strip_prefix(&CLOSE_REQUEST[38..])
 }
 
-/// Whether these are a Hello, an open request, a request of this type and a close request, each but the first of this moment.
+/// Whether these are such calls, and nothing else.
 fn are_calls(sent: &[u8], moment: i64, of_type: u8) -> bool {
-    let moment = moment.to_le_bytes();
-    let calls = [
-        HELLO,
-        OPENING,
-        moment.as_slice(),
-        LASTING_AN_HOUR,
-        &FIND_REQUEST[..26],
-        &[of_type],
-        &FIND_REQUEST[27..30],
-        moment.as_slice(),
-        &FIND_REQUEST[38..],
-        &CLOSE_REQUEST[..30],
-        moment.as_slice(),
-        &CLOSE_REQUEST[38..],
-    ];
-    are_joined(sent, &calls)
+    match behind_calls(sent, moment, of_type) {
+        Some(rest) => rest.is_empty(),
+        None => false,
+    }
 }
 
 /// Whether the question by a clock that stands at this moment is asked by a request of this type, of a server that says
