@@ -6,10 +6,10 @@ use Rattle.ua_frame.specs.declared.kind.Kind.{Kind}
 use Rattle.ua_frame.specs.declared.kind.Kind.TheVariants as kinds
 use Rattle.ua_frame.specs.Layout.{Parts, kind_of, flag_of, fields_of}
 use Rattle.ua_frame.specs.HeaderRows.{header_fault}
-use Rattle.ua_frame.specs.Hello.{hello_of, acknowledge_of, error_of}
+use Rattle.ua_frame.specs.Hello.{hello_of, acknowledge_of, error_of, reverse_hello_of}
 use Rattle.ua_chunk.specs.Layout.{open_chunk_of, chunk_of, with_flag}
 use Rattle.ua_chunk.specs.declared.content.Content.{Content}
-use Rattle.ua_chunk.specs.declared.content.Content.TheVariants.{Hello, Acknowledge, Error, Open, Message, Close}
+use Rattle.ua_chunk.specs.declared.content.Content.TheVariants.{Hello, Acknowledge, Error, ReverseHello, Open, Message, Close}
 use Rattle.ua_chunk.specs.declared.content.ContentFault.{ContentFault}
 use Rattle.ua_chunk.specs.declared.content.ContentFault.TheVariants.{Refused, NoMemory}
 
@@ -18,12 +18,12 @@ abbrev pub spelled : {V : Type 0} → (V → Content) → Option V → Result Co
 spelled as_content None = Err 0x80070000
 spelled as_content (Some v) = Ok (as_content v)
 
--- the content of a frame of this type with this flag and these fields, or the status that refuses it; no end takes an RHE
+-- the content of a frame of this type with this flag and these fields, or the status that refuses it
 abbrev pub content_by : Kind → ℕ → List ℕ → Result Content ℕ
 content_by kinds.Hello flag fields = spelled Hello (hello_of fields)
 content_by kinds.Acknowledge flag fields = spelled Acknowledge (acknowledge_of fields)
 content_by kinds.Error flag fields = spelled Error (error_of fields)
-content_by kinds.ReverseHello flag fields = Err 0x807E0000
+content_by kinds.ReverseHello flag fields = spelled ReverseHello (reverse_hello_of fields)
 content_by kinds.Open flag fields = spelled Open (open_chunk_of fields)
 content_by kinds.Message flag fields = spelled Message (with_flag kinds.Message flag (chunk_of fields))
 content_by kinds.Close flag fields = spelled Close (with_flag kinds.Close flag (chunk_of fields))
@@ -33,7 +33,6 @@ content_in frame = content_by frame.kind frame.flag frame.fields
 
 -- memory may run out for the types whose content is copied, which are those before a channel
 abbrev pub may_grow : Kind → Type 0
-may_grow kinds.ReverseHello = ⊥
 may_grow kinds.Open = ⊥
 may_grow kinds.Message = ⊥
 may_grow kinds.Close = ⊥

@@ -9,13 +9,14 @@ use Rattle.ua_frame.specs.declared.kind.Kind.TheVariants as kinds
 use Rattle.ua_frame.specs.declared.hello.Hello as hello
 use Rattle.ua_frame.specs.declared.acknowledge.Ack as acknowledge
 use Rattle.ua_frame.specs.declared.error_frame.ErrorFrame as error_frame
+use Rattle.ua_frame.specs.declared.reverse_hello.ReverseHello as reverse_hello
 use Rattle.ua_frame.specs.Layout.{Parts, IsFrame, IsFrameOf}
 use Rattle.ua_frame.specs.LayoutLaws.{frame_bytes_is}
 use Rattle.ua_frame.specs.HeaderRows.{flag_fits, header_fault}
 use Rattle.ua_frame.specs.Beginnings.{joined}
 use Rattle.ua_frame.specs.FrameLaws.{header_passes}
-use Rattle.ua_frame.specs.Hello.{hello_layout, acknowledge_layout, error_layout, hello_frame, acknowledge_frame, error_frame}
-use Rattle.ua_frame.specs.HelloLaws.{hello_length, acknowledge_length, error_length, hello_back, acknowledge_back, error_back}
+use Rattle.ua_frame.specs.Hello.{hello_layout, acknowledge_layout, error_layout, reverse_hello_layout, hello_frame, acknowledge_frame, error_frame, reverse_hello_frame, text_bytes}
+use Rattle.ua_frame.specs.HelloLaws.{hello_length, acknowledge_length, error_length, reverse_hello_length, hello_back, acknowledge_back, error_back, reverse_hello_back}
 use Rattle.ua_chunk.specs.Numbers.{number_after}
 use Rattle.ua_chunk.specs.Layout.{Chunk, FlaggedChunk, policy_none, open_fields, chunk_fields, abort_bytes, abort_of, with_flag}
 use Rattle.ua_chunk.specs.LayoutLaws.{written_is_read}
@@ -25,7 +26,7 @@ use Rattle.ua_chunk.specs.WrittenLaws.{chunk_frame_is, open_frame_is}
 use Rattle.ua_chunk.specs.FrameLaws.{number_fits, abort_read, abort_length, IsPartOf, fill_parts, message_list, message_joined}
 use Rattle.ua_chunk.specs.Content.{spelled, content_in, content_at, known, unless}
 use Rattle.ua_chunk.specs.declared.content.Content.{Content}
-use Rattle.ua_chunk.specs.declared.content.Content.TheVariants.{Hello, Acknowledge, Error, Open, Message, Close}
+use Rattle.ua_chunk.specs.declared.content.Content.TheVariants.{Hello, Acknowledge, Error, ReverseHello, Open, Message, Close}
 
 -- The bytes are one frame, and by any limit that it is within this is its content.
 abbrev pub Carries : List ℕ → Content → Type 0
@@ -74,6 +75,12 @@ error_carries : (e : error_frame.ErrorFrame) → error_layout.IsValue e → Carr
 error_carries e is =
     let f : Parts = record { kind = kinds.Error; flag = 70; fields = error_layout.canon e } in
     carries_by _ f (Error e) (frame_bytes_is f (omega (arith, error_length e, text_length e.reason (error_reason e is)))) refl (ap (spelled Error) (error_back e is))
+
+reverse_hello_carries : (r : reverse_hello.ReverseHello) → reverse_hello_layout.IsValue r → text_bytes r.server_uri + text_bytes r.endpoint_url ≤ 4294967279
+    → Carries (reverse_hello_frame r) (ReverseHello r)
+reverse_hello_carries r is short =
+    let f : Parts = record { kind = kinds.ReverseHello; flag = 70; fields = reverse_hello_layout.canon r } in
+    carries_by _ f (ReverseHello r) (frame_bytes_is f (omega (arith, reverse_hello_length r, short))) refl (ap (spelled ReverseHello) (reverse_hello_back r is))
 
 -- ---- on a channel
 
@@ -139,6 +146,7 @@ pub record ContentsAreRead : Type 0 where
   pub hello : (h : hello.Hello) → hello_layout.IsValue h → Carries (hello_frame h) (Hello h)
   pub acknowledge : (a : acknowledge.Ack) → acknowledge_layout.IsValue a → Carries (acknowledge_frame a) (Acknowledge a)
   pub error : (e : error_frame.ErrorFrame) → error_layout.IsValue e → Carries (error_frame e) (Error e)
+  pub reverse_hello : (r : reverse_hello.ReverseHello) → reverse_hello_layout.IsValue r → text_bytes r.server_uri + text_bytes r.endpoint_url ≤ 4294967279 → Carries (reverse_hello_frame r) (ReverseHello r)
   pub opens : (channel number id : ℕ) (body : List ℕ) → channel < 2 ^ 32 → number < 2 ^ 32 → id < 2 ^ 32 → 79 + length body < 2 ^ 32 → Carries (open_frame channel number id body) (opening channel number id body)
   pub message : (channel token first id k : ℕ) (body : List ℕ) → channel < 2 ^ 32 → token < 2 ^ 32 → id < 2 ^ 32 → 24 + k < 2 ^ 32 → MessageIsRead channel token first id k body
   pub closes : (channel token number id : ℕ) (body : List ℕ) → channel < 2 ^ 32 → token < 2 ^ 32 → number < 2 ^ 32 → id < 2 ^ 32 → 24 + length body < 2 ^ 32
@@ -150,6 +158,7 @@ contents_are_read = record {
   hello = hello_carries;
   acknowledge = acknowledge_carries;
   error = error_carries;
+  reverse_hello = reverse_hello_carries;
   opens = open_carries;
   message = λ channel token first id k body c t i short. record {
     frames = message_joined channel token first 0 (fill id body k);

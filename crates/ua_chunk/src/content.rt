@@ -7,8 +7,8 @@ ghost use Rattle.ua_chunk.specs.declared.content.ContentFault.TheVariants.{Refus
 use crate::chunk::{Chunk, message_chunk};
 use crate::opening::{OpenChunk, open_chunk};
 use std::alloc::Global;
-use ua_frame::status::{BAD_DECODING_ERROR, BAD_TCP_MESSAGE_TYPE_INVALID};
-use ua_frame::{Ack, ErrorFrame, Frame, Hello, Kind};
+use ua_frame::status::BAD_DECODING_ERROR;
+use ua_frame::{Ack, ErrorFrame, Frame, Hello, Kind, ReverseHello};
 use ua_value::ReadFault;
 
 /// What a frame carries, by its type. The bodies and the policy of an OPN are lent from the frame.
@@ -20,6 +20,8 @@ pub enum Content<'a> {
     Acknowledge(Ack),
     /// Why an end gives up the connection. OPC 10000-6, 7.1.2.5.
     Error(ErrorFrame),
+    /// How a server opens the conversation. OPC 10000-6, 7.1.2.6.
+    ReverseHello(ReverseHello),
     /// An open request or its answer. OPC 10000-6, 6.7.2.3.
     Open(OpenChunk<'a>),
     /// A part of a message, or that it is given up. OPC 10000-6, 6.7.2.2 and 6.7.3.
@@ -57,14 +59,13 @@ impl From<ReadFault> for ContentFault {
     }
 }
 
-/// What a frame carries: all of its fields, by the layout of its type. The url of a HEL and the reason of an ERR are
-/// copied; the content of any other frame takes no memory, whatever its size. OPC 10000-6, 6.7.2 and 7.1.2.
+/// What a frame carries: all of its fields, by the layout of its type. The texts of a HEL, an ERR and an RHE are copied;
+/// the content of any other frame takes no memory, whatever its size. OPC 10000-6, 6.7.2 and 7.1.2.
 ///
 /// # Errors
 ///
-/// `Refused` with `BAD_TCP_MESSAGE_TYPE_INVALID` where the frame is of a type that no end takes, which is RHE;
 /// `Refused` with `BAD_DECODING_ERROR` where the fields have not the layout of the frame's type; `NoMemory` where the
-/// room for a url or a reason is refused.
+/// room for a text is refused.
 pub fn content_of<'a>(alloc: Global, frame: &Frame<'a>) -> Result<Content<'a>, ContentFault>
     ensures found { IfOk result (λ content. content_in frame.now ≡ Ok content) }
     ensures refused { IfErr result (IsContentFault frame.now) }
@@ -73,7 +74,7 @@ pub fn content_of<'a>(alloc: Global, frame: &Frame<'a>) -> Result<Content<'a>, C
         Kind::Hello => Ok(Content::Hello(Hello::read(alloc, frame)?)),
         Kind::Acknowledge => Ok(Content::Acknowledge(Ack::read(frame)?)),
         Kind::Error => Ok(Content::Error(ErrorFrame::read(alloc, frame)?)),
-        Kind::ReverseHello => Err(ContentFault::Refused(BAD_TCP_MESSAGE_TYPE_INVALID)),
+        Kind::ReverseHello => Ok(Content::ReverseHello(ReverseHello::read(alloc, frame)?)),
         Kind::Open => Ok(Content::Open(open_chunk(frame)?)),
         Kind::Message => Ok(Content::Message(message_chunk(frame)?)),
         Kind::Close => Ok(Content::Close(message_chunk(frame)?)),

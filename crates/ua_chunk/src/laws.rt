@@ -33,7 +33,7 @@ pub fn assembles_any_cut()
     ensures { AssemblesAnyCut }
 {}
 
-/// Each frame that an end writes reads as its content, by any limit that it is within: HEL, ACK, ERR, OPN, CLO, the
+/// Each frame that an end writes reads as its content, by any limit that it is within: HEL, ACK, ERR, RHE, OPN, CLO, the
 /// frame of each part of a message, and the abort of one. OPC 10000-6, 6.7.2, 6.7.3 and 7.1.2.
 pub fn contents_are_read()
     ensures { ContentsAreRead }

@@ -6,7 +6,7 @@ use Rattle.ua_frame.specs.HeaderRows.{header_fault}
 use Rattle.ua_chunk.specs.Half.{ends_message}
 use Rattle.ua_chunk.specs.Content.{content_in, content_at}
 use Rattle.ua_chunk.specs.declared.content.Content.{Content}
-use Rattle.ua_chunk.specs.declared.content.Content.TheVariants.{Hello, Acknowledge, Error, Open, Message, Close}
+use Rattle.ua_chunk.specs.declared.content.Content.TheVariants.{Hello, Acknowledge, Error, ReverseHello, Open, Message, Close}
 use Rattle.ua_command.specs.FrameLine.{frame_line, message_line, bad_line, rest_line}
 use Rattle.ua_command.specs.Parts.{joined}
 use Rattle.ua_command.specs.declared.capture.Lines.{Lines}
@@ -32,6 +32,7 @@ abbrev pub half_after : List ℕ → Content → List ℕ
 half_after half (Hello h) = half
 half_after half (Acknowledge a) = half
 half_after half (Error e) = half
+half_after half (ReverseHello r) = half
 half_after half (Open c) = half
 half_after half (Message m) = if ends_message m.flag then [] else half ++ m.chunk.body
 half_after half (Close m) = half
@@ -41,6 +42,7 @@ abbrev pub message_lines : List ℕ → Content → List ℕ
 message_lines half (Hello h) = []
 message_lines half (Acknowledge a) = []
 message_lines half (Error e) = []
+message_lines half (ReverseHello r) = []
 message_lines half (Open c) = message_line c.request_id c.body
 message_lines half (Message m) = if m.flag == 70 then message_line m.chunk.request_id (half ++ m.chunk.body) else []
 message_lines half (Close m) = message_line m.chunk.request_id m.chunk.body

@@ -8,6 +8,7 @@ use Rattle.ua_value.specs.declared.node.NodeId.{NodeId}
 use Rattle.ua_frame.specs.declared.hello.Hello.{Hello}
 use Rattle.ua_frame.specs.declared.acknowledge.Ack.{Ack}
 use Rattle.ua_frame.specs.declared.error_frame.ErrorFrame.{ErrorFrame}
+use Rattle.ua_frame.specs.declared.reverse_hello.ReverseHello.{ReverseHello}
 use Rattle.ua_chunk.specs.Layout.{OpenChunk, FlaggedChunk}
 use Rattle.ua_chunk.specs.declared.content.Content.{Content}
 use Rattle.ua_chunk.specs.declared.content.Content.TheVariants as contents
@@ -28,6 +29,9 @@ acknowledge_text a = numbers_text a.version a.receive a.send a.max_message a.max
 abbrev pub error_text : ErrorFrame → List ℕ
 error_text e = codes "status=" ++ status_text e.status ++ codes " reason=" ++ quoted e.reason
 
+abbrev pub reverse_hello_text : ReverseHello → List ℕ
+reverse_hello_text r = codes "server=" ++ quoted r.server_uri ++ codes " url=" ++ quoted r.endpoint_url
+
 abbrev pub open_text : OpenChunk → List ℕ
 open_text c =
     codes "channel=" ++ decimal c.channel ++ codes " policy=" ++ quoted c.policy
@@ -44,6 +48,7 @@ abbrev pub content_text : ℕ → Content → List ℕ
 content_text size (contents.Hello h) = codes "HEL " ++ decimal size ++ codes " " ++ hello_text h
 content_text size (contents.Acknowledge a) = codes "ACK " ++ decimal size ++ codes " " ++ acknowledge_text a
 content_text size (contents.Error e) = codes "ERR " ++ decimal size ++ codes " " ++ error_text e
+content_text size (contents.ReverseHello r) = codes "RHE " ++ decimal size ++ codes " " ++ reverse_hello_text r
 content_text size (contents.Open c) = codes "OPN " ++ decimal size ++ codes " " ++ open_text c
 content_text size (contents.Message c) = codes "MSG " ++ encode_utf8 c.flag ++ codes " " ++ decimal size ++ codes " " ++ chunk_text c
 content_text size (contents.Close c) = codes "CLO " ++ decimal size ++ codes " " ++ chunk_text c

@@ -76,7 +76,10 @@ fn add_content<'a>(
 {
     add_frame(&mut lines.text, offset, size, content)?;
     match content {
-        Content::Hello(_) | Content::Acknowledge(_) | Content::Error(_) => Ok(()),
+        Content::Hello(_)
+        | Content::Acknowledge(_)
+        | Content::Error(_)
+        | Content::ReverseHello(_) => Ok(()),
         Content::Open(chunk) => {
             add_message(alloc, &mut lines.text, chunk.request_id(), chunk.body())
         }

@@ -4,14 +4,14 @@ ghost use Rattle.std.specs.Prelude.{◌≡◌, ◌≤◌, ◌++◌, codes, drop,
 ghost use Rattle.std.specs.Option.{option_map};
 ghost use Rattle.std.specs.Str.{IsUtf8};
 ghost use Rattle.ua_chunk.specs.declared.content.Content.TheVariants.{Message as message, Close as close};
-ghost use Rattle.ua_command.specs.FrameLine.{numbers_text, hello_text, acknowledge_text, error_text, open_text, chunk_text, frame_line, type_in, type_text, message_text, message_line, bad_line, rest_line};
+ghost use Rattle.ua_command.specs.FrameLine.{numbers_text, hello_text, acknowledge_text, error_text, reverse_hello_text, open_text, chunk_text, frame_line, type_in, type_text, message_text, message_line, bad_line, rest_line};
 
 use crate::row::{ROOM, add_number, add_row, put_number, put_word};
 use crate::text::{Code, Text, add_node};
 use std::alloc::{AllocError, Global};
 use std::fmt;
 use ua_chunk::{Chunk, Content, OpenChunk};
-use ua_frame::{Ack, ErrorFrame, Hello};
+use ua_frame::{Ack, ErrorFrame, Hello, ReverseHello};
 use ua_value::{NoMemory, NodeId, ReadFault, Wire};
 
 /// The numbers of a HEL or an ACK.
@@ -88,6 +88,21 @@ impl fmt::Display for ErrorLine<'_> {
         let error = self.0;
         let reason = Text(error.reason.get().map(str::as_bytes));
         write!(f, "status={} reason={reason}", Code(error.status))
+    }
+}
+
+/// What is said of an RHE.
+#[derive(Clone, Copy)]
+struct ReverseHelloLine<'a>(&'a ReverseHello);
+
+impl fmt::Display for ReverseHelloLine<'_> {
+    ghost output = { λ line. Some (reverse_hello_text line.0.now) };
+
+    fn fmt<W: fmt::Write>(&self, f: &mut fmt::Formatter<W>) -> fmt::Result {
+        let said = self.0;
+        let server = Text(said.server_uri.get().map(str::as_bytes));
+        let url = Text(said.endpoint_url.get().map(str::as_bytes));
+        write!(f, "server={server} url={url}")
     }
 }
 
@@ -206,6 +221,9 @@ pub fn add_frame(
         Content::Hello(hello) => writeln!(text, "{offset} HEL {size} {}", HelloLine(hello)),
         Content::Acknowledge(ack) => writeln!(text, "{offset} ACK {size} {}", AcknowledgeLine(ack)),
         Content::Error(error) => writeln!(text, "{offset} ERR {size} {}", ErrorLine(error)),
+        Content::ReverseHello(said) => {
+            writeln!(text, "{offset} RHE {size} {}", ReverseHelloLine(said))
+        }
         Content::Open(chunk) => writeln!(text, "{offset} OPN {size} {}", OpenLine(chunk)),
         Content::Message(chunk) => add_message_frame(text, offset, size, chunk),
         Content::Close(chunk) => add_close_frame(text, offset, size, chunk),

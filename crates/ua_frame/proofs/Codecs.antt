@@ -6,7 +6,7 @@ use Rattle.ua_value.specs.Format.{◌>>=◌, IsBytes, Format, IsLawful, Gives, F
 use Rattle.ua_value.specs.Lists.{same_some}
 use Rattle.ua_value.specs.Sequence.{by}
 use Rattle.ua_value.specs.Whole.{ended, only, only_takes, only_again, ReadsAll}
-use Rattle.ua_frame.specs.Hello.{HelloFields, show_hello, make_hello, hello_fields, hello_layout, hello_of, ErrorFields, show_error, make_error, error_fields, error_layout, error_of}
+use Rattle.ua_frame.specs.Hello.{HelloFields, show_hello, make_hello, hello_fields, hello_layout, hello_of, ErrorFields, show_error, make_error, error_fields, error_layout, error_of, ReverseHelloFields, show_reverse_hello, make_reverse_hello, reverse_hello_fields, reverse_hello_layout, reverse_hello_of}
 
 some_by : {V W : Type 0} (back : W → V) (r : Option (W × List ℕ)) (w : W) → (r >>= ended) ≡ Some w → ((r >>= λ x. Some (back x.0, x.1)) >>= ended) ≡ Some (back w)
 some_by {V} {W} back None w e = absurd cc
@@ -57,3 +57,11 @@ error_some bytes p e = only_by show_error make_error error_fields bytes p e
 pub error_fails : (bytes : List ℕ) (fault : ReadFault) → Fails fault (only error_fields.grammar bytes) → Fails fault (error_of bytes)
 unfolding error_layout
 error_fails bytes fault e = fails_by show_error make_error error_fields bytes fault e
+
+pub reverse_hello_some : (bytes : List ℕ) (p : ReverseHelloFields) → only reverse_hello_fields.grammar bytes ≡ Some p → reverse_hello_of bytes ≡ Some (make_reverse_hello p)
+unfolding reverse_hello_layout
+reverse_hello_some bytes p e = only_by show_reverse_hello make_reverse_hello reverse_hello_fields bytes p e
+
+pub reverse_hello_fails : (bytes : List ℕ) (fault : ReadFault) → Fails fault (only reverse_hello_fields.grammar bytes) → Fails fault (reverse_hello_of bytes)
+unfolding reverse_hello_layout
+reverse_hello_fails bytes fault e = fails_by show_reverse_hello make_reverse_hello reverse_hello_fields bytes fault e

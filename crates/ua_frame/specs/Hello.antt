@@ -1,4 +1,4 @@
--- The frames before a secure channel: HEL, ACK and ERR. OPC 10000-6, 7.1.2.3 to 7.1.2.5.
+-- The frames before a secure channel: HEL, ACK, ERR and RHE. OPC 10000-6, 7.1.2.3 to 7.1.2.6.
 use Rattle.std.specs.Prelude.{ℕ, Bool, true, false, ◌&&◌, ◌||◌, nat_lt, nat_le, min, List, [], ◌∷◌, length, Option, Some, None, Result, Ok, Err, refl}
 use Rattle.std.specs.Int.{w32}
 use Rattle.ua_value.specs.Format.{Format, IsLawful}
@@ -12,6 +12,7 @@ use Rattle.ua_value.specs.Whole.{only}
 use Rattle.ua_frame.specs.declared.hello.Hello.{Hello}
 use Rattle.ua_frame.specs.declared.acknowledge.Ack.{Ack}
 use Rattle.ua_frame.specs.declared.error_frame.ErrorFrame.{ErrorFrame}
+use Rattle.ua_frame.specs.declared.reverse_hello.ReverseHello.{ReverseHello}
 use Rattle.ua_frame.specs.declared.limits.Limits.{Limits}
 use Rattle.ua_frame.specs.declared.kind.Kind.TheVariants as kinds
 use Rattle.ua_frame.specs.Layout.{frame_bytes}
@@ -64,6 +65,26 @@ error_fields = pair (unsigned w32) string
 unfoldable pub error_layout : Format ErrorFrame
 error_layout = by show_error make_error error_fields
 
+abbrev pub ReverseHelloFields : Type 0
+ReverseHelloFields = Option (List ℕ) × Option (List ℕ)
+
+abbrev pub show_reverse_hello : ReverseHello → ReverseHelloFields
+show_reverse_hello r = (r.server_uri, r.endpoint_url)
+
+abbrev pub make_reverse_hello : ReverseHelloFields → ReverseHello
+make_reverse_hello p = record { server_uri = p.0; endpoint_url = p.1 }
+
+abbrev pub reverse_hello_fields : Format ReverseHelloFields
+reverse_hello_fields = pair string string
+
+unfoldable pub reverse_hello_layout : Format ReverseHello
+reverse_hello_layout = by show_reverse_hello make_reverse_hello reverse_hello_fields
+
+-- the bytes of a text itself, of which a null one has none
+abbrev pub text_bytes : Option (List ℕ) → ℕ
+text_bytes None = 0
+text_bytes (Some text) = length text
+
 number_then : {V : Type 0} (f : Format V) → IsLawful f → IsLawful (pair (unsigned w32) f)
 number_then f law = lawful_pair _ _ (lawful_unsigned w32 wide_32) law
 
@@ -79,6 +100,10 @@ pub lawful_error : IsLawful error_layout
 unfolding error_layout
 lawful_error = lawful_by _ _ _ (λ e. refl) (λ p. refl) (number_then _ lawful_string)
 
+pub lawful_reverse_hello : IsLawful reverse_hello_layout
+unfolding reverse_hello_layout
+lawful_reverse_hello = lawful_by _ _ _ (λ r. refl) (λ p. refl) (lawful_pair _ _ lawful_string lawful_string)
+
 -- what the whole fields of a frame spell, if anything
 abbrev pub hello_of : List ℕ → Option Hello
 hello_of fields = only hello_layout.grammar fields
@@ -89,6 +114,9 @@ acknowledge_of fields = only acknowledge_layout.grammar fields
 abbrev pub error_of : List ℕ → Option ErrorFrame
 error_of fields = only error_layout.grammar fields
 
+abbrev pub reverse_hello_of : List ℕ → Option ReverseHello
+reverse_hello_of fields = only reverse_hello_layout.grammar fields
+
 -- the whole frames, whose flag is F
 abbrev pub hello_frame : Hello → List ℕ
 hello_frame h = frame_bytes (record { kind = kinds.Hello; flag = 70; fields = hello_layout.canon h })
@@ -98,6 +126,9 @@ acknowledge_frame a = frame_bytes (record { kind = kinds.Acknowledge; flag = 70;
 
 abbrev pub error_frame : ErrorFrame → List ℕ
 error_frame e = frame_bytes (record { kind = kinds.Error; flag = 70; fields = error_layout.canon e })
+
+abbrev pub reverse_hello_frame : ReverseHello → List ℕ
+reverse_hello_frame r = frame_bytes (record { kind = kinds.ReverseHello; flag = 70; fields = reverse_hello_layout.canon r })
 
 -- ---- negotiation
 

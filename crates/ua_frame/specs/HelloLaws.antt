@@ -1,14 +1,16 @@
 -- How long the frames before a secure channel are, and that each is read back as it was written.
-use Rattle.std.proofs.Common.{◌≡◌, ◌+◌, ℕ, List, ◌++◌, length, length-append, Some, refl, arith}
-use Rattle.std.specs.Int.{w32}
+use Rattle.std.proofs.Common.{◌≡◌, ◌+◌, ℕ, List, ◌++◌, length, length-append, Option, Some, None, refl, arith}
+use Rattle.std.specs.Int.{w32, to_le_bytes}
 use Rattle.ua_value.specs.Format.{Format, IsLawful}
 use Rattle.ua_value.specs.Number.{unsigned}
-use Rattle.ua_value.specs.Text.{string}
+use Rattle.ua_value.specs.NumberLaws.{wide_32}
+use Rattle.ua_value.specs.Text.{string, bytes_of}
 use Rattle.ua_value.specs.Whole.{only, only_again}
 use Rattle.ua_frame.specs.declared.hello.Hello.{Hello}
 use Rattle.ua_frame.specs.declared.acknowledge.Ack.{Ack}
 use Rattle.ua_frame.specs.declared.error_frame.ErrorFrame.{ErrorFrame}
-use Rattle.ua_frame.specs.Hello.{hello_layout, acknowledge_layout, error_layout, lawful_hello, lawful_acknowledge, lawful_error, hello_of, acknowledge_of, error_of}
+use Rattle.ua_frame.specs.declared.reverse_hello.ReverseHello.{ReverseHello}
+use Rattle.ua_frame.specs.Hello.{hello_layout, acknowledge_layout, error_layout, reverse_hello_layout, lawful_hello, lawful_acknowledge, lawful_error, lawful_reverse_hello, hello_of, acknowledge_of, error_of, reverse_hello_of, text_bytes}
 
 -- ---- lengths
 
@@ -35,6 +37,18 @@ pub error_length : (e : ErrorFrame) → length (error_layout.canon e) ≡ 4 + le
 unfolding error_layout
 error_length e = number_then e.status (length (string.canon e.reason)) (string.canon e.reason) refl
 
+pub text_length : (text : Option (List ℕ)) → length (string.canon text) ≡ 4 + text_bytes text
+unfolding bytes_of
+text_length None = refl
+text_length (Some text) = omega (arith, length-append (to_le_bytes w32 (length text)) text, wide_32.len (length text))
+
+pub reverse_hello_length : (r : ReverseHello) → length (reverse_hello_layout.canon r) ≡ 8 + (text_bytes r.server_uri + text_bytes r.endpoint_url)
+unfolding reverse_hello_layout
+reverse_hello_length r =
+    let uri = string.canon r.server_uri in
+    let url = string.canon r.endpoint_url in
+    omega (arith, length-append uri url, text_length r.server_uri, text_length r.endpoint_url)
+
 -- ---- read back
 
 read_back : {V : Type 0} (f : Format V) → IsLawful f → (v : V) → f.IsValue v → only f.grammar (f.canon v) ≡ Some v
@@ -48,3 +62,6 @@ acknowledge_back a is = read_back acknowledge_layout lawful_acknowledge a is
 
 pub error_back : (e : ErrorFrame) → error_layout.IsValue e → error_of (error_layout.canon e) ≡ Some e
 error_back e is = read_back error_layout lawful_error e is
+
+pub reverse_hello_back : (r : ReverseHello) → reverse_hello_layout.IsValue r → reverse_hello_of (reverse_hello_layout.canon r) ≡ Some r
+reverse_hello_back r is = read_back reverse_hello_layout lawful_reverse_hello r is

@@ -11,6 +11,7 @@ pub mod laws;
 mod limits;
 mod negotiation;
 mod policy;
+mod reverse_hello;
 pub mod status;
 mod writing;
 
@@ -23,3 +24,4 @@ pub use kind::Kind;
 pub use limits::Limits;
 pub use negotiation::{VERSION, acceptable, negotiate};
 pub use policy::POLICY_NONE;
+pub use reverse_hello::{ReverseHello, write_reverse_hello};

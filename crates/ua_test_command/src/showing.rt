@@ -107,8 +107,28 @@ fn shows_each_type(rt: HostRuntime) {
         ),
         (
             b"RHEF-\0\0\0\x05\0\0\0urn:a\x18\0\0\0opc.tcp://localhost:4840".as_slice(),
+            0,
+            "0 RHE 45 server=\"urn:a\" url=\"opc.tcp://localhost:4840\"\n",
+        ),
+        (
+            b"RHEF\x11\0\0\0\xFF\xFF\xFF\xFF\x01\0\0\0\"".as_slice(),
+            0,
+            "0 RHE 17 server=null url=\"\\x22\"\n",
+        ),
+        (
+            b"RHEF\x11\0\0\0\x01\0\0\0a\xFF\xFF\xFF\xFFHELF".as_slice(),
             1,
-            "0 bad 807E0000\n",
+            "0 RHE 17 server=\"a\" url=null\n17 rest 4\n",
+        ),
+        (
+            b"RHEF\x0C\0\0\0\xFF\xFF\xFF\xFF".as_slice(),
+            1,
+            "0 bad 80070000\n",
+        ),
+        (
+            b"RHEF\x11\0\0\0\xFF\xFF\xFF\xFF\xFF\xFF\xFF\xFF\0".as_slice(),
+            1,
+            "0 bad 80070000\n",
         ),
         (
             b"ERRF\x11\0\0\0\0\0\x7E\x80\xFF\xFF\xFF\xFF\0".as_slice(),

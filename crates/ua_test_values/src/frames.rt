@@ -1,4 +1,7 @@
-//! Frames of the connection protocol: headers, Hello, Acknowledge and Error, and what is agreed.
+//! Frames of the connection protocol: headers, Hello, Acknowledge, Error and ReverseHello, and what is agreed.
+
+ghost use Rattle.std.specs.Prelude.{◌≡◌};
+ghost use Rattle.ua_frame.specs.Hello.{text_bytes};
 
 use crate::vectors::{ACKNOWLEDGE, HELLO};
 use std::alloc::{AllocError, Global};
@@ -6,13 +9,17 @@ use ua_frame::status::{
     BAD_DECODING_ERROR, BAD_TCP_ENDPOINT_URL_INVALID, BAD_TCP_MESSAGE_TOO_LARGE,
     BAD_TCP_MESSAGE_TYPE_INVALID, BAD_TCP_NOT_ENOUGH_RESOURCES,
 };
-use ua_frame::{Ack, ErrorFrame, Frame, Hello, Kind, Limits, frame_at, negotiate};
+use ua_frame::{Ack, ErrorFrame, Frame, Hello, Kind, Limits, ReverseHello, frame_at, negotiate};
 use ua_value::{ReadFault, UaString, ValueFault};
 
 pub(crate) const ERROR: &[u8] = b"ERRF\x10\0\0\0\0\0\x7E\x80\xFF\xFF\xFF\xFF";
 
 /// The same with another status and a reason.
 pub(crate) const TOLD: &[u8] = b"ERRF\x12\0\0\0\0\0\x07\x80\x02\0\0\0no";
+
+/// The first frame of a server that opened the connection, by the settings `default`.
+pub(crate) const REVERSE_HELLO: &[u8] =
+    b"RHEF\x2D\0\0\0\x05\0\0\0urn:a\x18\0\0\0opc.tcp://localhost:4840";
 
 const LIMITS: Limits = Limits {
     receive: 65535,
@@ -59,6 +66,13 @@ pub(crate) fn error_of(alloc: Global, bytes: &[u8]) -> Result<ErrorFrame, ReadFa
     }
 }
 
+pub(crate) fn reverse_hello_of(alloc: Global, bytes: &[u8]) -> Result<ReverseHello, ReadFault> {
+    match whole(bytes) {
+        Some(frame) => ReverseHello::read(alloc, &frame),
+        None => Err(ReadFault::NoMemory),
+    }
+}
+
 /// A frame that is written behind other bytes.
 pub(crate) trait Written {
     fn put(&self, out: &mut Vec<u8>) -> Result<(), AllocError>;
@@ -78,6 +92,26 @@ impl Written for Ack {
 
 impl Written for ErrorFrame {
     fn put(&self, out: &mut Vec<u8>) -> Result<(), AllocError> {
+        self.write(out)
+    }
+}
+
+/// The bytes of a text, of which a null one has none.
+fn text_len(text: &UaString) -> usize
+    ensures { result ≡ text_bytes text.now }
+{
+    match text.get() {
+        None => 0,
+        Some(text) => text.len(),
+    }
+}
+
+/// The texts of these tests are short.
+impl Written for ReverseHello {
+    fn put(&self, out: &mut Vec<u8>) -> Result<(), AllocError> {
+        if text_len(&self.server_uri) > 4096 || text_len(&self.endpoint_url) > 4096 {
+            return Err(AllocError);
+        }
         self.write(out)
     }
 }
@@ -159,6 +193,70 @@ fn acknowledge_and_error_are_read(rt: HostRuntime) {
     assert!(rt; is_error(alloc, ERROR, BAD_TCP_MESSAGE_TYPE_INVALID, None));
     assert!(rt; is_error(alloc, TOLD, BAD_DECODING_ERROR, Some("no")));
     assert!(rt; is_told(alloc));
+}
+
+/// Whether a ReverseHello with these texts is read of the bytes, and written as they are.
+fn is_reverse_hello(alloc: Global, bytes: &[u8], uri: Option<&str>, url: Option<&str>) -> bool {
+    match reverse_hello_of(alloc, bytes) {
+        Ok(said) => {
+            said.server_uri.get() == uri
+                && said.endpoint_url.get() == url
+                && is_written(alloc, &said, bytes)
+        }
+        Err(_) => false,
+    }
+}
+
+/// Whether the bytes are a whole frame that is no ReverseHello.
+fn is_no_reverse_hello(alloc: Global, bytes: &[u8]) -> bool {
+    matches!(reverse_hello_of(alloc, bytes), Err(ReadFault::Refused))
+}
+
+#[test]
+fn reverse_hellos_are_read(rt: HostRuntime) {
+    let alloc = rt.alloc();
+    let url = "opc.tcp://localhost:4840";
+    assert!(rt; is_reverse_hello(alloc, REVERSE_HELLO, Some("urn:a"), Some(url)));
+    assert!(rt;
+        is_reverse_hello(
+            alloc,
+            b"RHEF\x10\0\0\0\xFF\xFF\xFF\xFF\xFF\xFF\xFF\xFF",
+            None,
+            None
+        )
+    );
+    assert!(rt;
+        is_reverse_hello(
+            alloc,
+            b"RHEF\x10\0\0\0\0\0\0\0\xFF\xFF\xFF\xFF",
+            Some(""),
+            None
+        )
+    );
+    assert!(rt;
+        is_reverse_hello(
+            alloc,
+            b"RHEF\x11\0\0\0\xFF\xFF\xFF\xFF\x01\0\0\0b",
+            None,
+            Some("b")
+        )
+    );
+}
+
+#[test]
+fn what_is_no_reverse_hello_is_refused(rt: HostRuntime) {
+    let alloc = rt.alloc();
+    for bytes in [
+        HELLO,
+        b"RHEF\x08\0\0\0",
+        b"RHEF\x0C\0\0\0\xFF\xFF\xFF\xFF",
+        b"RHEF\x0F\0\0\0\xFF\xFF\xFF\xFF\xFF\xFF\xFF",
+        b"RHEF\x10\0\0\0\xFF\xFF\xFF\xFF\xFE\xFF\xFF\xFF",
+        b"RHEF\x11\0\0\0\x01\0\0\0\xFF\xFF\xFF\xFF\xFF",
+        b"RHEF\x11\0\0\0\xFF\xFF\xFF\xFF\xFF\xFF\xFF\xFF\0",
+    ] {
+        assert!(rt; is_no_reverse_hello(alloc, bytes));
+    }
 }
 
 /// Bytes, the greatest size of a frame, and why the header is refused, if it is.

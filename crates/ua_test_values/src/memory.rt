@@ -1,7 +1,9 @@
 //! Each call that grows gives its full answer, or says that memory ran out and leaves what stood before. These tests are run with each growth
 //! refused in turn (tools/refuse-growths).
 
-use crate::frames::{AGREED, ERROR, TOLD, Written, error_of, hello_of};
+use crate::frames::{
+    AGREED, ERROR, REVERSE_HELLO, TOLD, Written, error_of, hello_of, reverse_hello_of,
+};
 use crate::making::around;
 use crate::requests::{Header, Session, request_of};
 use crate::spelling::{Shown, is_behind, is_text};
@@ -335,6 +337,17 @@ fn told_or_no_memory(alloc: Global) -> bool {
     }
 }
 
+fn reverse_hello_or_no_memory(alloc: Global) -> bool {
+    match reverse_hello_of(alloc, REVERSE_HELLO) {
+        Ok(said) => {
+            is_text(&said.server_uri, "urn:a")
+                && is_text(&said.endpoint_url, "opc.tcp://localhost:4840")
+                && is_frame_written_or_no_memory(alloc, &said, REVERSE_HELLO)
+        }
+        Err(fault) => fault == ReadFault::NoMemory,
+    }
+}
+
 #[test]
 fn frames_or_no_memory(rt: HostRuntime) {
     let alloc = rt.alloc();
@@ -342,4 +355,5 @@ fn frames_or_no_memory(rt: HostRuntime) {
     assert!(rt; acknowledge_or_no_memory(alloc));
     assert!(rt; error_or_no_memory(alloc));
     assert!(rt; told_or_no_memory(alloc));
+    assert!(rt; reverse_hello_or_no_memory(alloc));
 }
