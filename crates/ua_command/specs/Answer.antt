@@ -1,5 +1,5 @@
 -- What the command `answer` prints, and its exit status.
-use Rattle.std.specs.Prelude.{◌≡◌, ℕ, List, ◌++◌, map, codes, Option, Ok, IfSome}
+use Rattle.std.specs.Prelude.{false, ◌≡◌, ℕ, List, ◌++◌, map, codes, Option, Ok, IfSome}
 use Rattle.std.specs.Io.KnownBytes.{Appends}
 use Rattle.hex.specs.Hex.{encode_lower}
 use Rattle.ua_frame.specs.Streams.{Piece, TimedByte, moment_of, timed}
@@ -20,7 +20,7 @@ site_with settings = record { settings = settings; channel = 1 }
 
 -- what it answers to a stream, and how it ends
 abbrev pub answered : Configuration → List TimedByte → List ℕ
-answered settings s = reply_bytes (site_with settings) s
+answered settings s = reply_bytes false (site_with settings) s
 
 abbrev pub ending : Configuration → List TimedByte → End
 ending settings s = end_of (site_with settings) s

@@ -23,3 +23,4 @@ pub mod FeedLemmas
 pub mod PieceLemmas
 pub mod WholeInputLemmas
 pub mod GrowthLemmas
+pub mod GreetingLemmas

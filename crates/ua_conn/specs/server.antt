@@ -2,6 +2,7 @@ pub mod Site
 pub mod Answers
 pub mod Faults
 pub mod Replies
+pub mod Greeting
 pub mod Held
 pub mod Machine
 pub mod FirstFault

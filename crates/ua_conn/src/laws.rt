@@ -1,7 +1,10 @@
 //! Laws of the definitions of a connection: what they say is true of every stream of bytes.
 
+ghost use Rattle.std.specs.Prelude.{◌≡◌, false, List};
+ghost use Rattle.ua_frame.specs.Streams.{TimedByte};
 ghost use Rattle.ua_conn.specs.server.FirstFault.{StopsFirst};
 ghost use Rattle.ua_conn.specs.server.Held.{ByRecord};
+ghost use Rattle.ua_conn.specs.server.Replies.{answering_bytes, reply_bytes};
 ghost use Rattle.ua_conn.specs.client.FirstFault.{ClientStopsFirst, ClientStaysStopped};
 ghost use Rattle.ua_conn.specs.client.Held.{ClientByRecord, RefusedByRecord};
 ghost use Rattle.ua_conn.specs.client.Unanswered.{PendingIsUnanswered};
@@ -29,6 +32,11 @@ pub fn stays_stopped()
 /// Lists of pieces with one timed stream get one answer: one reply, the same requests handed on, and one end.
 pub fn same_for_any_cut()
     ensures { SameForAnyCut }
+{}
+
+/// A server that did not open the connection itself says nothing first: its reply is what answers the stream.
+pub fn without_reverse()
+    ensures { (site : Site) (s : List TimedByte) → reply_bytes false site s ≡ answering_bytes site s }
 {}
 
 /// A server that takes frames of 8192 bytes refuses nothing in a list of frames, with nothing behind a CLO, exactly

@@ -20,5 +20,8 @@ pub use client::{Answer, AnswerResult, AskFault, Client, ClientConfig, ClientFau
 pub use conversation::converse;
 pub use outcome::{End, Outcome};
 pub use schedule::Step;
-pub use server::{Fed, FeedFault, Server, answer_all, reply_all};
+pub use server::{
+    Fed, FeedFault, ReverseFault, Server, answer_all, answer_all_reverse, reply_all,
+    reply_all_reverse,
+};
 pub use story::{Setup, Story};

@@ -1,8 +1,9 @@
 //! The server's end of a connection.
 
-ghost use Rattle.std.specs.Prelude.{◌≡◌, ◌<◌, ◌≤◌, ◌^◌, ◌↔◌, [], true, false, None, IfOk, OnErr, IsErrOf};
+ghost use Rattle.std.specs.Prelude.{◌≡◌, ◌<◌, ◌≤◌, ◌^◌, ◌↔◌, ◌++◌, [], true, false, None, Some, IfOk, OnErr, IsErrOf, is_ok, if◌then◌else◌};
 ghost use Rattle.ua_frame.specs.Streams.{moment_of as counted};
 ghost use Rattle.ua_conn.specs.server.Site.{Site};
+ghost use Rattle.ua_conn.specs.server.Greeting.{greeting, reverse_fault};
 ghost use Rattle.ua_conn.specs.server.Replies.{ended};
 ghost use Rattle.ua_conn.specs.server.Held.{held};
 ghost use Rattle.ua_conn.specs.server.Bound.{held_bytes, most_held};
@@ -13,19 +14,23 @@ mod answers;
 mod connection;
 mod conversation;
 mod fault;
+mod greeting;
 mod hearing;
 
 use crate::moment::moment_of;
 use crate::outcome::End;
 use crate::server::connection::Connection;
+use crate::server::greeting::greeting_url;
 use crate::server::hearing::hear;
-pub use conversation::{answer_all, reply_all};
+pub use conversation::{answer_all, answer_all_reverse, reply_all, reply_all_reverse};
+pub use greeting::ReverseFault;
 use std::alloc::{AllocError, Global};
 use std::marker::Model;
 use ua_disco::Settings;
-use ua_frame::FrameBuf;
+use ua_frame::{FrameBuf, write_reverse_hello};
 use ua_service::Request;
 use ua_value::NoMemory;
+use ua_value::plumbing::let_go;
 
 /// Why a piece was not taken.
 #[derive(Clone, Copy, Debug, PartialEq, Eq)]
@@ -111,6 +116,38 @@ impl<'a> Server<'a> {
             moment: 0,
             failed: false,
         })
+    }
+
+    /// A server that opened the connection itself, for the channel with this id, which is not 0: `out` gains one
+    /// ReverseHello with the URI of its application and the url of its first endpoint, by which the client is to say
+    /// Hello. Of what comes then it takes what any server takes. OPC 10000-6, 7.1.2.6.
+    ///
+    /// # Errors
+    ///
+    /// The first of these that holds: `NoEndpoint` where the settings have none; `TooLarge` where the frame would have
+    /// more than 8192 bytes; `NoMemory` where a growth was refused. `out` is then unchanged.
+    pub fn new_reverse(
+        alloc: Global,
+        settings: &'a Settings,
+        channel_id: u32,
+        out: &mut Vec<u8>,
+    ) -> Result<Server<'a>, ReverseFault>
+        requires { 0 < channel_id }
+        ensures server { IfOk result (λ server. let site : Site = record { settings = settings.now; channel = channel_id } in
+            server ≡ record { site = site; held = held site []; failed = false }) }
+        ensures said { out.new.items ≡ (if is_ok result then out.old.items ++ greeting true settings.now else out.old.items) }
+        ensures no_endpoint { IsErrOf result ReverseFault.NoEndpoint ↔ (reverse_fault settings.now ≡ Some ReverseFault.NoEndpoint) }
+        ensures too_large { IsErrOf result ReverseFault.TooLarge ↔ (reverse_fault settings.now ≡ Some ReverseFault.TooLarge) }
+    {
+        let url = greeting_url(settings)?;
+        let server = Server::new(alloc, settings, channel_id)?;
+        match write_reverse_hello(settings.first_uri(), url, out) {
+            Ok(()) => Ok(server),
+            Err(_) => {
+                let_go(server);
+                Err(ReverseFault::NoMemory)
+            }
+        }
     }
 
     /// Takes one more piece, which came at `now`: ticks of 100 ns since 1601-01-01 UTC. A moment before 0, or before

@@ -1,6 +1,7 @@
 -- A connection over a link, turn after turn.
-use Rattle.std.proofs.Common.{arith, ◌≡◌, ℕ, ◌+◌, ◌<◌, ◌≤◌, ℤ, false, List, [], ◌∷◌, ◌++◌, length, take, Option, Some, None, refl, sym, ap, subst, ◌∙◌, ◌⊎◌, inl, inr, take_all, length-append}
+use Rattle.std.proofs.Common.{Bool, arith, ◌≡◌, ℕ, ◌+◌, ◌<◌, ◌≤◌, ℤ, false, List, [], ◌∷◌, ◌++◌, length, take, Option, Some, None, refl, sym, ap, subst, ◌∙◌, ◌⊎◌, inl, inr, take_all, length-append}
 use lib.Seq.{take-append-add}
+use Rattle.std.proofs.lemmas.List.{append-nil}
 use Rattle.std.specs.Io.KnownBytes.{Appends, Consumes, IsAtEnd}
 use Rattle.std.proofs.KnownBytes.{Appends-nil, Appends-trans, Consumes-nil, Consumes-trans, Consumes-kept}
 use Rattle.ua_frame.specs.Streams.{Piece, timed, cuts_within, rest_within, rest_of, plain}
@@ -8,6 +9,7 @@ use Rattle.ua_frame.specs.Layout.{Frame, frames_of}
 use Rattle.ua_conn.specs.Past.{Past}
 use Rattle.ua_conn.specs.server.Site.{Site}
 use Rattle.ua_conn.specs.server.Faults.{fault_in_rest}
+use Rattle.ua_conn.specs.server.Greeting.{greeting}
 use Rattle.ua_conn.specs.server.Replies.{Reading, reply_bytes, ended, end_of}
 use Rattle.ua_conn.specs.server.Held.{held, stop, GoesOn}
 use Rattle.ua_conn.specs.server.Feeding.{Shown}
@@ -26,27 +28,45 @@ use Rattle.ua_link.proofs.TurnLemmas.{stop_is}
 
 -- ---- nothing was read
 
-nothing_said : (site : Site) → reply_bytes site (timed []) ≡ []
+nothing_said : (reverse : Bool) (site : Site) → reply_bytes reverse site (timed []) ≡ greeting reverse site.settings
 unfolding fault_in_rest cuts_within rest_within
-nothing_said site = refl
+nothing_said reverse site = append-nil (greeting reverse site.settings)
 
-pub start : (site : Site) (server : Shown) (cuts : List Cut) (s : Seen) → cuts ≡ [] → server ≡ record { site = site; held = held site []; failed = false } → Serving site server cuts 0 s s
-start site server cuts s none e = subst (λ cs. Serving site server cs 0 s s) (sym none) (record {
+same_input : (before after : Seen) → after.input ≡ before.input → Consumes before.input after.input []
+same_input before after e = subst (λ i. Consumes before.input i []) (sym e) (Consumes-nil before.input)
+
+-- What a server says first was sent, n bytes.
+pub start : (reverse : Bool) (site : Site) (server : Shown) (n : ℕ) (before after : Seen) → server ≡ record { site = site; held = held site []; failed = false } → n ≡ length (greeting reverse site.settings)
+    → after.input ≡ before.input → Appends before.output after.output (greeting reverse site.settings) → after.faults ≡ before.faults → Serving reverse site server [] n before after
+start reverse site server n before after e len input sent faults = record {
   read = [];
-  input = Consumes-nil s.input;
+  input = same_input before after input;
   lengths = refl;
   goes_on = nothing_yet site;
   shows = e;
-  sent = subst (Appends s.output s.output) (sym (nothing_said site)) (Appends-nil s.output);
-  written = sym (ap length (nothing_said site));
+  sent = subst (Appends before.output after.output) (sym (nothing_said reverse site)) sent;
+  written = len ∙ sym (ap length (nothing_said reverse site));
   filled = tt;
-  counted = refl;
-})
+  counted = faults;
+}
+
+-- The link failed before all of that was sent.
+pub ungreeted : (reverse : Bool) (site : Site) (n turns : ℕ) (before after : Seen) → n ≤ length (greeting reverse site.settings) → after.input ≡ before.input
+    → Appends before.output after.output (take n (greeting reverse site.settings)) → after.faults ≡ before.faults + 1 → Served reverse site turns before after LinkFailed [] n
+ungreeted reverse site n turns before after within input sent faults = record {
+  read = [];
+  input = same_input before after input;
+  lengths = refl;
+  sent = subst (λ b. Appends before.output after.output (take n b)) (sym (nothing_said reverse site)) sent;
+  within = subst (λ b. n ≤ length b) (sym (nothing_said reverse site)) within;
+  tells = tt;
+  counted = faults;
+}
 
 -- ---- the connection ends between two turns
 
-pub starved : (site : Site) (server : Shown) (cuts : List Cut) (n turns : ℕ) (before after : Seen) → Serving site server cuts n before after → Served site turns before after NoMemory cuts n
-starved site server cuts n turns before after s = record {
+pub starved : (reverse : Bool) (site : Site) (server : Shown) (cuts : List Cut) (n turns : ℕ) (before after : Seen) → Serving reverse site server cuts n before after → Served reverse site turns before after NoMemory cuts n
+starved reverse site server cuts n turns before after s = record {
   read = s.read;
   input = s.input;
   lengths = s.lengths;
@@ -56,8 +76,8 @@ starved site server cuts n turns before after s = record {
   counted = s.counted;
 }
 
-pub spent : (site : Site) (server : Shown) (cuts : List Cut) (n turns : ℕ) (before after : Seen) → length cuts ≡ turns → Serving site server cuts n before after → Served site turns before after TurnsSpent cuts n
-spent site server cuts n turns before after all s = record {
+pub spent : (reverse : Bool) (site : Site) (server : Shown) (cuts : List Cut) (n turns : ℕ) (before after : Seen) → length cuts ≡ turns → Serving reverse site server cuts n before after → Served reverse site turns before after TurnsSpent cuts n
+spent reverse site server cuts n turns before after all s = record {
   read = s.read;
   input = s.input;
   lengths = s.lengths;
@@ -68,8 +88,8 @@ spent site server cuts n turns before after all s = record {
 }
 
 -- Before the first turn there is no server.
-pub unstarted : (site : Site) (cuts : List Cut) (turns : ℕ) (s : Seen) → cuts ≡ [] → Served site turns s s NoMemory cuts 0
-unstarted site cuts turns s none = subst (λ cs. Served site turns s s NoMemory cs 0) (sym none) (record {
+pub unstarted : (reverse : Bool) (site : Site) (cuts : List Cut) (turns : ℕ) (s : Seen) → cuts ≡ [] → Served reverse site turns s s NoMemory cuts 0
+unstarted reverse site cuts turns s none = subst (λ cs. Served reverse site turns s s NoMemory cs 0) (sym none) (record {
   read = [];
   input = Consumes-nil s.input;
   lengths = refl;
@@ -79,10 +99,10 @@ unstarted site cuts turns s none = subst (λ cs. Served site turns s s NoMemory 
   counted = refl;
 })
 
-pub unread : (site : Site) (server new : Shown) (cuts : List Cut) (n turns : ℕ) (before mid after : Seen) (turn : Turn) → Serving site server cuts n before mid → Unread server new mid after turn →
-    Served site turns before after LinkFailed cuts (n + turn.written)
-unread site server new cuts n turns before mid after turn s u =
-    let all = reply_bytes site (timed (pieces_by cuts s.read)) in
+pub unread : (reverse : Bool) (site : Site) (server new : Shown) (cuts : List Cut) (n turns : ℕ) (before mid after : Seen) (turn : Turn) → Serving reverse site server cuts n before mid → Unread server new mid after turn →
+    Served reverse site turns before after LinkFailed cuts (n + turn.written)
+unread reverse site server new cuts n turns before mid after turn s u =
+    let all = reply_bytes reverse site (timed (pieces_by cuts s.read)) in
     let within : n + turn.written ≤ length all = omega (arith, s.written, u.written) in
     let past : length all ≤ n + turn.written = omega (arith, s.written, u.written) in
     record {
@@ -98,25 +118,25 @@ unread site server new cuts n turns before mid after turn s u =
 -- ---- a read
 
 -- what is read, sent and counted with it
-pub record Partly (site : Site) (before after : Seen) (ps : List Piece) (now : ℤ) (bytes : List ℕ) (cuts : List Cut) (n : ℕ) : Type 0 where
+pub record Partly (reverse : Bool) (site : Site) (before after : Seen) (ps : List Piece) (now : ℤ) (bytes : List ℕ) (cuts : List Cut) (n : ℕ) : Type 0 where
   pub read : List ℕ
   pub input : Consumes before.input after.input read
   pub lengths : length read ≡ total cuts
   pub pieces : pieces_by cuts read ≡ more ps now bytes
-  pub sent : Appends before.output after.output (take n (reply_bytes site (timed (more ps now bytes))))
-  pub within : n ≤ length (reply_bytes site (timed (more ps now bytes)))
+  pub sent : Appends before.output after.output (take n (reply_bytes reverse site (timed (more ps now bytes))))
+  pub within : n ≤ length (reply_bytes reverse site (timed (more ps now bytes)))
 
 took : (a b c : Option (List ℕ)) (all said : List ℕ) (n w : ℕ) → n ≡ length all → Appends a b all → Appends b c (take w said) → Appends a c (take (n + w) (all ++ said))
 took a b c all said n w e p q =
     subst (Appends a c) (sym (ap (λ k. take (k + w) (all ++ said)) e ∙ take-append-add all said w)) (Appends-trans a b c all (take w said) p q)
 
-partly : (site : Site) (server : Shown) (cuts : List Cut) (n w : ℕ) (before mid after : Seen) (now : ℤ) (bytes said : List ℕ) → (s : Serving site server cuts n before mid) →
-    Consumes mid.input after.input bytes → reply_bytes site (timed (more (pieces_by cuts s.read) now bytes)) ≡ reply_bytes site (timed (pieces_by cuts s.read)) ++ said →
+partly : (reverse : Bool) (site : Site) (server : Shown) (cuts : List Cut) (n w : ℕ) (before mid after : Seen) (now : ℤ) (bytes said : List ℕ) → (s : Serving reverse site server cuts n before mid) →
+    Consumes mid.input after.input bytes → reply_bytes reverse site (timed (more (pieces_by cuts s.read) now bytes)) ≡ reply_bytes reverse site (timed (pieces_by cuts s.read)) ++ said →
     Appends mid.output after.output (take w said) → w ≤ length said →
-    Partly site before after (pieces_by cuts s.read) now bytes (cuts ++ (now, length bytes) ∷ []) (n + w)
-partly site server cuts n w before mid after now bytes said s came replied sent l =
+    Partly reverse site before after (pieces_by cuts s.read) now bytes (cuts ++ (now, length bytes) ∷ []) (n + w)
+partly reverse site server cuts n w before mid after now bytes said s came replied sent l =
     let ps = pieces_by cuts s.read in
-    let all = reply_bytes site (timed ps) in
+    let all = reply_bytes reverse site (timed ps) in
     record {
       read = s.read ++ bytes;
       input = Consumes-trans before.input mid.input after.input s.read bytes s.input came;
@@ -126,18 +146,18 @@ partly site server cuts n w before mid after now bytes said s came replied sent 
       within = omega (arith, ap length replied, length-append all said, s.written);
     }
 
-served : (site : Site) (turns : ℕ) (before after : Seen) (ps : List Piece) (now : ℤ) (bytes : List ℕ) (cuts : List Cut) (n : ℕ) (ending : End) → Partly site before after ps now bytes cuts n →
-    Tells ending (end_of site (timed (more ps now bytes))) n (length (reply_bytes site (timed (more ps now bytes)))) turns cuts after → after.faults ≡ faults_by ending before.faults →
-    Served site turns before after ending cuts n
-served site turns before after ps now bytes cuts n ending p t counted =
+served : (reverse : Bool) (site : Site) (turns : ℕ) (before after : Seen) (ps : List Piece) (now : ℤ) (bytes : List ℕ) (cuts : List Cut) (n : ℕ) (ending : End) → Partly reverse site before after ps now bytes cuts n →
+    Tells ending (end_of site (timed (more ps now bytes))) n (length (reply_bytes reverse site (timed (more ps now bytes)))) turns cuts after → after.faults ≡ faults_by ending before.faults →
+    Served reverse site turns before after ending cuts n
+served reverse site turns before after ps now bytes cuts n ending p t counted =
     let e = sym p.pieces in
     record {
       read = p.read;
       input = p.input;
       lengths = p.lengths;
-      sent = subst (λ qs. Appends before.output after.output (take n (reply_bytes site (timed qs)))) e p.sent;
-      within = subst (λ qs. n ≤ length (reply_bytes site (timed qs))) e p.within;
-      tells = subst (λ qs. Tells ending (end_of site (timed qs)) n (length (reply_bytes site (timed qs))) turns cuts after) e t;
+      sent = subst (λ qs. Appends before.output after.output (take n (reply_bytes reverse site (timed qs)))) e p.sent;
+      within = subst (λ qs. n ≤ length (reply_bytes reverse site (timed qs))) e p.within;
+      tells = subst (λ qs. Tells ending (end_of site (timed qs)) n (length (reply_bytes reverse site (timed qs))) turns cuts after) e t;
       counted = counted;
     }
 
@@ -202,27 +222,27 @@ written_within : (said : List ℕ) (came : Option End) (before after : Seen) (tu
 written_within said came before after turn (inl w) = omega (arith, w.written)
 written_within said came before after turn (inr p) = p.written
 
-heard_partly : (site : Site) (server new : Shown) (cuts : List Cut) (n : ℕ) (before mid after : Seen) (now : ℤ) (bytes : List ℕ) (turn : Turn) (s : Serving site server cuts n before mid) →
+heard_partly : (reverse : Bool) (site : Site) (server new : Shown) (cuts : List Cut) (n : ℕ) (before mid after : Seen) (now : ℤ) (bytes : List ℕ) (turn : Turn) (s : Serving reverse site server cuts n before mid) →
     Consumes mid.input after.input bytes → Heard site (pieces_by cuts s.read) now bytes new mid after turn →
-    Partly site before after (pieces_by cuts s.read) now bytes (cuts ++ (now, length bytes) ∷ []) (n + turn.written)
-heard_partly site server new cuts n before mid after now bytes turn s came h =
-    partly site server cuts n turn.written before mid after now bytes h.said s came h.replied h.sent (written_within h.said _ mid after turn h.outcome)
+    Partly reverse site before after (pieces_by cuts s.read) now bytes (cuts ++ (now, length bytes) ∷ []) (n + turn.written)
+heard_partly reverse site server new cuts n before mid after now bytes turn s came h =
+    partly reverse site server cuts n turn.written before mid after now bytes h.said s came (h.replied reverse) h.sent (written_within h.said _ mid after turn h.outcome)
 
-whole_length : (site : Site) (server : Shown) (cuts : List Cut) (n w : ℕ) (before mid : Seen) (now : ℤ) (bytes said : List ℕ) (s : Serving site server cuts n before mid) →
-    reply_bytes site (timed (more (pieces_by cuts s.read) now bytes)) ≡ reply_bytes site (timed (pieces_by cuts s.read)) ++ said → w ≡ length said →
-    n + w ≡ length (reply_bytes site (timed (more (pieces_by cuts s.read) now bytes)))
-whole_length site server cuts n w before mid now bytes said s replied e =
-    omega (arith, ap length replied, length-append (reply_bytes site (timed (pieces_by cuts s.read))) said, s.written)
+whole_length : (reverse : Bool) (site : Site) (server : Shown) (cuts : List Cut) (n w : ℕ) (before mid : Seen) (now : ℤ) (bytes said : List ℕ) (s : Serving reverse site server cuts n before mid) →
+    reply_bytes reverse site (timed (more (pieces_by cuts s.read) now bytes)) ≡ reply_bytes reverse site (timed (pieces_by cuts s.read)) ++ said → w ≡ length said →
+    n + w ≡ length (reply_bytes reverse site (timed (more (pieces_by cuts s.read) now bytes)))
+whole_length reverse site server cuts n w before mid now bytes said s replied e =
+    omega (arith, ap length replied, length-append (reply_bytes reverse site (timed (pieces_by cuts s.read))) said, s.written)
 
-whole_goes_on : (site : Site) (server new : Shown) (cuts : List Cut) (n : ℕ) (before mid after : Seen) (now : ℤ) (bytes : List ℕ) (turn : Turn) (s : Serving site server cuts n before mid) →
+whole_goes_on : (reverse : Bool) (site : Site) (server new : Shown) (cuts : List Cut) (n : ℕ) (before mid after : Seen) (now : ℤ) (bytes : List ℕ) (turn : Turn) (s : Serving reverse site server cuts n before mid) →
     Consumes mid.input after.input bytes → (h : Heard site (pieces_by cuts s.read) now bytes new mid after turn) →
     SentWhole h.said (ending_at bytes (end_of site (timed (more (pieces_by cuts s.read) now bytes)))) mid after turn → turn.end ≡ None →
-    Serving site new (cuts ++ (now, length bytes) ∷ []) (n + turn.written) before after
-whole_goes_on site server new cuts n before mid after now bytes turn s came h w none =
+    Serving reverse site new (cuts ++ (now, length bytes) ∷ []) (n + turn.written) before after
+whole_goes_on reverse site server new cuts n before mid after now bytes turn s came h w none =
     let ps = pieces_by cuts s.read in
-    let p = heard_partly site server new cuts n before mid after now bytes turn s came h in
+    let p = heard_partly reverse site server new cuts n before mid after now bytes turn s came h in
     let goes = goes_on_ending bytes (end_of site (timed (more ps now bytes))) (sym w.ending ∙ none) in
-    let len = whole_length site server cuts n turn.written before mid now bytes h.said s h.replied w.written in
+    let len = whole_length reverse site server cuts n turn.written before mid now bytes h.said s (h.replied reverse) w.written in
     let e = sym p.pieces in
     record {
       read = p.read;
@@ -230,95 +250,95 @@ whole_goes_on site server new cuts n before mid after now bytes turn s came h w 
       lengths = p.lengths;
       goes_on = subst (GoesOn site) e goes.1;
       shows = subst (λ qs. new ≡ record { site = site; held = held site qs; failed = false }) e (h.shows goes.1);
-      sent = subst (λ qs. Appends before.output after.output (reply_bytes site (timed qs))) e
-          (subst (Appends before.output after.output) (take_all (n + turn.written) (reply_bytes site (timed (more ps now bytes))) (omega (arith, len))) p.sent);
-      written = subst (λ qs. n + turn.written ≡ length (reply_bytes site (timed qs))) e len;
+      sent = subst (λ qs. Appends before.output after.output (reply_bytes reverse site (timed qs))) e
+          (subst (Appends before.output after.output) (take_all (n + turn.written) (reply_bytes reverse site (timed (more ps now bytes))) (omega (arith, len))) p.sent);
+      written = subst (λ qs. n + turn.written ≡ length (reply_bytes reverse site (timed qs))) e len;
       filled = none_empty_more cuts (now, length bytes) s.filled goes.0;
       counted = w.counted ∙ s.counted;
     }
 
-heard_goes_on : (site : Site) (server new : Shown) (cuts : List Cut) (n : ℕ) (before mid after : Seen) (now : ℤ) (bytes : List ℕ) (turn : Turn) (s : Serving site server cuts n before mid) →
+heard_goes_on : (reverse : Bool) (site : Site) (server new : Shown) (cuts : List Cut) (n : ℕ) (before mid after : Seen) (now : ℤ) (bytes : List ℕ) (turn : Turn) (s : Serving reverse site server cuts n before mid) →
     Consumes mid.input after.input bytes → (h : Heard site (pieces_by cuts s.read) now bytes new mid after turn) →
     SentWhole h.said (ending_at bytes (end_of site (timed (more (pieces_by cuts s.read) now bytes)))) mid after turn ⊎ SentPart h.said mid after turn → turn.end ≡ None →
-    Serving site new (cuts ++ (now, length bytes) ∷ []) (n + turn.written) before after
-heard_goes_on site server new cuts n before mid after now bytes turn s came h (inl w) none = whole_goes_on site server new cuts n before mid after now bytes turn s came h w none
-heard_goes_on site server new cuts n before mid after now bytes turn s came h (inr p) none = absurd (let k = sym p.ending ∙ none in cc)
+    Serving reverse site new (cuts ++ (now, length bytes) ∷ []) (n + turn.written) before after
+heard_goes_on reverse site server new cuts n before mid after now bytes turn s came h (inl w) none = whole_goes_on reverse site server new cuts n before mid after now bytes turn s came h w none
+heard_goes_on reverse site server new cuts n before mid after now bytes turn s came h (inr p) none = absurd (let k = sym p.ending ∙ none in cc)
 
-whole_ends : (site : Site) (server new : Shown) (cuts : List Cut) (n turns : ℕ) (before mid after : Seen) (now : ℤ) (bytes : List ℕ) (turn : Turn) (ending : End) (s : Serving site server cuts n before mid) →
+whole_ends : (reverse : Bool) (site : Site) (server new : Shown) (cuts : List Cut) (n turns : ℕ) (before mid after : Seen) (now : ℤ) (bytes : List ℕ) (turn : Turn) (ending : End) (s : Serving reverse site server cuts n before mid) →
     Consumes mid.input after.input bytes → (bytes ≡ [] → IsAtEnd after.input) → (h : Heard site (pieces_by cuts s.read) now bytes new mid after turn) →
     SentWhole h.said (ending_at bytes (end_of site (timed (more (pieces_by cuts s.read) now bytes)))) mid after turn → turn.end ≡ Some ending →
-    Served site turns before after ending (cuts ++ (now, length bytes) ∷ []) (n + turn.written)
-whole_ends site server new cuts n turns before mid after now bytes turn ending s came at_end h w ends =
+    Served reverse site turns before after ending (cuts ++ (now, length bytes) ∷ []) (n + turn.written)
+whole_ends reverse site server new cuts n turns before mid after now bytes turn ending s came at_end h w ends =
     let ps = pieces_by cuts s.read in
     let E = end_of site (timed (more ps now bytes)) in
     let all = cuts ++ (now, length bytes) ∷ [] in
     let comes : ending_at bytes E ≡ Some ending = sym w.ending ∙ ends in
     let is = ending_is bytes E ending comes in
-    let len = whole_length site server cuts n turn.written before mid now bytes h.said s h.replied w.written in
-    let tells = tells_own bytes (n + turn.written) (length (reply_bytes site (timed (more ps now bytes)))) turns all after (own site (more ps now bytes)) (comes ∙ ap Some is) len
+    let len = whole_length reverse site server cuts n turn.written before mid now bytes h.said s (h.replied reverse) w.written in
+    let tells = tells_own bytes (n + turn.written) (length (reply_bytes reverse site (timed (more ps now bytes)))) turns all after (own site (more ps now bytes)) (comes ∙ ap Some is) len
     (λ none. (last_empty cuts now bytes s.filled none, at_end none)) in
-    subst (λ end. Served site turns before after end all (n + turn.written)) (sym is)
-    (served site turns before after ps now bytes all (n + turn.written) E (heard_partly site server new cuts n before mid after now bytes turn s came h) tells
+    subst (λ end. Served reverse site turns before after end all (n + turn.written)) (sym is)
+    (served reverse site turns before after ps now bytes all (n + turn.written) E (heard_partly reverse site server new cuts n before mid after now bytes turn s came h) tells
     (w.counted ∙ s.counted ∙ own_faults before.faults (own site (more ps now bytes))))
 
-heard_ends : (site : Site) (server new : Shown) (cuts : List Cut) (n turns : ℕ) (before mid after : Seen) (now : ℤ) (bytes : List ℕ) (turn : Turn) (ending : End) (s : Serving site server cuts n before mid) →
+heard_ends : (reverse : Bool) (site : Site) (server new : Shown) (cuts : List Cut) (n turns : ℕ) (before mid after : Seen) (now : ℤ) (bytes : List ℕ) (turn : Turn) (ending : End) (s : Serving reverse site server cuts n before mid) →
     Consumes mid.input after.input bytes → (bytes ≡ [] → IsAtEnd after.input) → (h : Heard site (pieces_by cuts s.read) now bytes new mid after turn) →
     SentWhole h.said (ending_at bytes (end_of site (timed (more (pieces_by cuts s.read) now bytes)))) mid after turn ⊎ SentPart h.said mid after turn → turn.end ≡ Some ending →
-    Served site turns before after ending (cuts ++ (now, length bytes) ∷ []) (n + turn.written)
-heard_ends site server new cuts n turns before mid after now bytes turn ending s came at_end h (inl w) ends =
-    whole_ends site server new cuts n turns before mid after now bytes turn ending s came at_end h w ends
-heard_ends site server new cuts n turns before mid after now bytes turn ending s came at_end h (inr p) ends =
+    Served reverse site turns before after ending (cuts ++ (now, length bytes) ∷ []) (n + turn.written)
+heard_ends reverse site server new cuts n turns before mid after now bytes turn ending s came at_end h (inl w) ends =
+    whole_ends reverse site server new cuts n turns before mid after now bytes turn ending s came at_end h w ends
+heard_ends reverse site server new cuts n turns before mid after now bytes turn ending s came at_end h (inr p) ends =
     let all = cuts ++ (now, length bytes) ∷ [] in
     let is : ending ≡ LinkFailed = (let k = sym ends ∙ p.ending in cc) in
-    subst (λ end. Served site turns before after end all (n + turn.written)) (sym is)
-    (served site turns before after (pieces_by cuts s.read) now bytes all (n + turn.written) LinkFailed (heard_partly site server new cuts n before mid after now bytes turn s came h) tt
+    subst (λ end. Served reverse site turns before after end all (n + turn.written)) (sym is)
+    (served reverse site turns before after (pieces_by cuts s.read) now bytes all (n + turn.written) LinkFailed (heard_partly reverse site server new cuts n before mid after now bytes turn s came h) tt
     (p.counted ∙ ap (λ k. k + 1) s.counted))
 
-unheard_ends : (site : Site) (server new : Shown) (cuts : List Cut) (n turns : ℕ) (before mid after : Seen) (now : ℤ) (bytes : List ℕ) (turn : Turn) (ending : End) (s : Serving site server cuts n before mid) →
-    Consumes mid.input after.input bytes → Unheard new mid after turn → turn.end ≡ Some ending → Served site turns before after ending (cuts ++ (now, length bytes) ∷ []) (n + turn.written)
-unheard_ends site server new cuts n turns before mid after now bytes turn ending s came u ends =
+unheard_ends : (reverse : Bool) (site : Site) (server new : Shown) (cuts : List Cut) (n turns : ℕ) (before mid after : Seen) (now : ℤ) (bytes : List ℕ) (turn : Turn) (ending : End) (s : Serving reverse site server cuts n before mid) →
+    Consumes mid.input after.input bytes → Unheard new mid after turn → turn.end ≡ Some ending → Served reverse site turns before after ending (cuts ++ (now, length bytes) ∷ []) (n + turn.written)
+unheard_ends reverse site server new cuts n turns before mid after now bytes turn ending s came u ends =
     let all = cuts ++ (now, length bytes) ∷ [] in
     let ps = pieces_by cuts s.read in
     let law = by_record site (held site ps) (piece_at now bytes) in
     let gained = law.1 ps s.goes_on refl in
     let is : ending ≡ NoMemory = (let k = sym ends ∙ u.ending in cc) in
     let none = subst (λ o. Appends mid.output o []) (sym u.output) (Appends-nil mid.output) in
-    let p = partly site server cuts n 0 before mid after now bytes law.0.bytes s came gained.replied none (omega arith) in
-    subst (λ end. Served site turns before after end all (n + turn.written)) (sym is)
-    (subst (λ w. Served site turns before after NoMemory all (n + w)) (sym u.written) (served site turns before after ps now bytes all (n + 0) NoMemory p tt (u.counted ∙ s.counted)))
+    let p = partly reverse site server cuts n 0 before mid after now bytes law.0.bytes s came (gained.replied reverse) none (omega arith) in
+    subst (λ end. Served reverse site turns before after end all (n + turn.written)) (sym is)
+    (subst (λ w. Served reverse site turns before after NoMemory all (n + w)) (sym u.written) (served reverse site turns before after ps now bytes all (n + 0) NoMemory p tt (u.counted ∙ s.counted)))
 
-either_ends : (site : Site) (server new : Shown) (cuts : List Cut) (n turns : ℕ) (before mid after : Seen) (now : ℤ) (bytes : List ℕ) (turn : Turn) (ending : End) (s : Serving site server cuts n before mid) →
+either_ends : (reverse : Bool) (site : Site) (server new : Shown) (cuts : List Cut) (n turns : ℕ) (before mid after : Seen) (now : ℤ) (bytes : List ℕ) (turn : Turn) (ending : End) (s : Serving reverse site server cuts n before mid) →
     Consumes mid.input after.input bytes → (bytes ≡ [] → IsAtEnd after.input) → Heard site (pieces_by cuts s.read) now bytes new mid after turn ⊎ Unheard new mid after turn → turn.end ≡ Some ending →
-    Served site turns before after ending (cuts ++ (now, length bytes) ∷ []) (n + turn.written)
-either_ends site server new cuts n turns before mid after now bytes turn ending s came at_end (inl h) ends =
-    heard_ends site server new cuts n turns before mid after now bytes turn ending s came at_end h h.outcome ends
-either_ends site server new cuts n turns before mid after now bytes turn ending s came at_end (inr u) ends =
-    unheard_ends site server new cuts n turns before mid after now bytes turn ending s came u ends
+    Served reverse site turns before after ending (cuts ++ (now, length bytes) ∷ []) (n + turn.written)
+either_ends reverse site server new cuts n turns before mid after now bytes turn ending s came at_end (inl h) ends =
+    heard_ends reverse site server new cuts n turns before mid after now bytes turn ending s came at_end h h.outcome ends
+either_ends reverse site server new cuts n turns before mid after now bytes turn ending s came at_end (inr u) ends =
+    unheard_ends reverse site server new cuts n turns before mid after now bytes turn ending s came u ends
 
-either_goes_on : (site : Site) (server new : Shown) (cuts : List Cut) (n : ℕ) (before mid after : Seen) (now : ℤ) (bytes : List ℕ) (turn : Turn) (s : Serving site server cuts n before mid) →
+either_goes_on : (reverse : Bool) (site : Site) (server new : Shown) (cuts : List Cut) (n : ℕ) (before mid after : Seen) (now : ℤ) (bytes : List ℕ) (turn : Turn) (s : Serving reverse site server cuts n before mid) →
     Consumes mid.input after.input bytes → Heard site (pieces_by cuts s.read) now bytes new mid after turn ⊎ Unheard new mid after turn → turn.end ≡ None →
-    Serving site new (cuts ++ (now, length bytes) ∷ []) (n + turn.written) before after
-either_goes_on site server new cuts n before mid after now bytes turn s came (inl h) none = heard_goes_on site server new cuts n before mid after now bytes turn s came h h.outcome none
-either_goes_on site server new cuts n before mid after now bytes turn s came (inr u) none = absurd (let k = sym u.ending ∙ none in cc)
+    Serving reverse site new (cuts ++ (now, length bytes) ∷ []) (n + turn.written) before after
+either_goes_on reverse site server new cuts n before mid after now bytes turn s came (inl h) none = heard_goes_on reverse site server new cuts n before mid after now bytes turn s came h h.outcome none
+either_goes_on reverse site server new cuts n before mid after now bytes turn s came (inr u) none = absurd (let k = sym u.ending ∙ none in cc)
 
-pub turn_goes_on : (site : Site) (server new : Shown) (cuts : List Cut) (n : ℕ) (before mid after : Seen) (turn : Turn) → Serving site server cuts n before mid → Turns server new mid after turn →
-    turn.end ≡ None → Serving site new (cuts_with turn.cut cuts) (n + turn.written) before after
-turn_goes_on site server new cuts n before mid after turn s (inl u) none = absurd (let k = sym u.ending ∙ none in cc)
-turn_goes_on site server new cuts n before mid after turn s (inr r) none =
+pub turn_goes_on : (reverse : Bool) (site : Site) (server new : Shown) (cuts : List Cut) (n : ℕ) (before mid after : Seen) (turn : Turn) → Serving reverse site server cuts n before mid → Turns server new mid after turn →
+    turn.end ≡ None → Serving reverse site new (cuts_with turn.cut cuts) (n + turn.written) before after
+turn_goes_on reverse site server new cuts n before mid after turn s (inl u) none = absurd (let k = sym u.ending ∙ none in cc)
+turn_goes_on reverse site server new cuts n before mid after turn s (inr r) none =
     let h = hears site (pieces_by cuts s.read) server new r.now r.bytes mid after turn s.shows s.goes_on r.heard in
-    subst (λ cut. Serving site new (cuts_with cut cuts) (n + turn.written) before after) (sym r.cut)
-    (either_goes_on site server new cuts n before mid after r.now r.bytes turn s r.input h none)
+    subst (λ cut. Serving reverse site new (cuts_with cut cuts) (n + turn.written) before after) (sym r.cut)
+    (either_goes_on reverse site server new cuts n before mid after r.now r.bytes turn s r.input h none)
 
-pub turn_ends : (site : Site) (server new : Shown) (cuts : List Cut) (n turns : ℕ) (before mid after : Seen) (turn : Turn) (ending : End) → Serving site server cuts n before mid →
-    Turns server new mid after turn → turn.end ≡ Some ending → Served site turns before after ending (cuts_with turn.cut cuts) (n + turn.written)
-turn_ends site server new cuts n turns before mid after turn ending s (inl u) ends =
+pub turn_ends : (reverse : Bool) (site : Site) (server new : Shown) (cuts : List Cut) (n turns : ℕ) (before mid after : Seen) (turn : Turn) (ending : End) → Serving reverse site server cuts n before mid →
+    Turns server new mid after turn → turn.end ≡ Some ending → Served reverse site turns before after ending (cuts_with turn.cut cuts) (n + turn.written)
+turn_ends reverse site server new cuts n turns before mid after turn ending s (inl u) ends =
     let is : ending ≡ LinkFailed = (let k = sym ends ∙ u.ending in cc) in
-    subst (λ cut. Served site turns before after ending (cuts_with cut cuts) (n + turn.written)) (sym u.cut)
-    (subst (λ end. Served site turns before after end cuts (n + turn.written)) (sym is) (unread site server new cuts n turns before mid after turn s u))
-turn_ends site server new cuts n turns before mid after turn ending s (inr r) ends =
+    subst (λ cut. Served reverse site turns before after ending (cuts_with cut cuts) (n + turn.written)) (sym u.cut)
+    (subst (λ end. Served reverse site turns before after end cuts (n + turn.written)) (sym is) (unread reverse site server new cuts n turns before mid after turn s u))
+turn_ends reverse site server new cuts n turns before mid after turn ending s (inr r) ends =
     let h = hears site (pieces_by cuts s.read) server new r.now r.bytes mid after turn s.shows s.goes_on r.heard in
-    subst (λ cut. Served site turns before after ending (cuts_with cut cuts) (n + turn.written)) (sym r.cut)
-    (either_ends site server new cuts n turns before mid after r.now r.bytes turn ending s r.input r.at_end h ends)
+    subst (λ cut. Served reverse site turns before after ending (cuts_with cut cuts) (n + turn.written)) (sym r.cut)
+    (either_ends reverse site server new cuts n turns before mid after r.now r.bytes turn ending s r.input r.at_end h ends)
 
 -- one entry more at most
 pub cut_counted : (server new : Shown) (cuts : List Cut) (before after : Seen) (turn : Turn) → Turns server new before after turn → turn.end ≡ None → length (cuts_with turn.cut cuts) ≡ length cuts + 1

@@ -45,7 +45,7 @@ pub heard : (site : Site) (ps : List Piece) (now : ℤ) (bytes out said : List �
     SentWhole said (ending_at bytes (end_of site (timed (more ps now bytes)))) before after turn ⊎ SentPart said before after turn → Heard site ps now bytes new before after turn
 heard site ps now bytes out said asked came new before after turn f none hands sent outcome = record {
   said = said;
-  replied = f.replied ∙ ap (λ l. reply_bytes site (timed ps) ++ l) (sym (f.out_is ∙ ap (λ o. o ++ f.added) none));
+  replied = λ reverse. f.replied reverse ∙ ap (λ l. reply_bytes reverse site (timed ps) ++ l) (sym (f.out_is ∙ ap (λ o. o ++ f.added) none));
   hands = f.hands ∙ ap (λ l. handed site (timed ps) ++ l) (sym hands);
   shows = λ goes. f.shows (f.came_is ∙ goes);
   sent = sent;

@@ -1,5 +1,5 @@
 -- A whole connection over a link.
-use Rattle.std.specs.Prelude.{◌≡◌, ℕ, ◌+◌, ◌≤◌, false, List, [], ◌∷◌, ◌++◌, take, length, Option, Some, None}
+use Rattle.std.specs.Prelude.{◌≡◌, ℕ, ◌+◌, ◌≤◌, Bool, false, List, [], ◌∷◌, ◌++◌, take, length, Option, Some, None}
 use Rattle.std.specs.Io.KnownBytes.{Appends, Consumes, IsAtEnd}
 use Rattle.ua_frame.specs.Streams.{timed}
 use Rattle.ua_conn.specs.server.Site.{Site}
@@ -26,25 +26,25 @@ Tells (Refused status) ending written owed turns cuts after = (written ≡ owed)
 Tells InputEnded ending written owed turns cuts after = (written ≡ owed) × (ending ≡ InputEnded) × LastEmpty cuts × IsAtEnd after.input
 Tells Truncated ending written owed turns cuts after = (written ≡ owed) × (ending ≡ Truncated) × LastEmpty cuts × IsAtEnd after.input
 
--- A beginning of the reply to what was read was sent, which is n bytes long.
-pub record Served (site : Site) (turns : ℕ) (before after : Seen) (ending : End) (cuts : List Cut) (n : ℕ) : Type 0 where
+-- A beginning of the reply to what was read was sent, which is n bytes long, by a server that opened the connection itself or not.
+pub record Served (reverse : Bool) (site : Site) (turns : ℕ) (before after : Seen) (ending : End) (cuts : List Cut) (n : ℕ) : Type 0 where
   pub read : List ℕ
   pub input : Consumes before.input after.input read
   pub lengths : length read ≡ total cuts
-  pub sent : Appends before.output after.output (take n (reply_bytes site (timed (pieces_by cuts read))))
-  pub within : n ≤ length (reply_bytes site (timed (pieces_by cuts read)))
-  pub tells : Tells ending (end_of site (timed (pieces_by cuts read))) n (length (reply_bytes site (timed (pieces_by cuts read)))) turns cuts after
+  pub sent : Appends before.output after.output (take n (reply_bytes reverse site (timed (pieces_by cuts read))))
+  pub within : n ≤ length (reply_bytes reverse site (timed (pieces_by cuts read)))
+  pub tells : Tells ending (end_of site (timed (pieces_by cuts read))) n (length (reply_bytes reverse site (timed (pieces_by cuts read)))) turns cuts after
   pub counted : after.faults ≡ faults_by ending before.faults
 
 -- a connection that goes on, after these reads
-pub record Serving (site : Site) (server : Shown) (cuts : List Cut) (n : ℕ) (before after : Seen) : Type 0 where
+pub record Serving (reverse : Bool) (site : Site) (server : Shown) (cuts : List Cut) (n : ℕ) (before after : Seen) : Type 0 where
   pub read : List ℕ
   pub input : Consumes before.input after.input read
   pub lengths : length read ≡ total cuts
   pub goes_on : GoesOn site (pieces_by cuts read)
   pub shows : server ≡ record { site = site; held = held site (pieces_by cuts read); failed = false }
-  pub sent : Appends before.output after.output (reply_bytes site (timed (pieces_by cuts read)))
-  pub written : n ≡ length (reply_bytes site (timed (pieces_by cuts read)))
+  pub sent : Appends before.output after.output (reply_bytes reverse site (timed (pieces_by cuts read)))
+  pub written : n ≡ length (reply_bytes reverse site (timed (pieces_by cuts read)))
   pub filled : NoneEmpty cuts
   pub counted : after.faults ≡ before.faults
 

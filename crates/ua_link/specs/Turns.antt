@@ -1,5 +1,5 @@
 -- One turn of a server over a link: a read, what the server makes of it, and what is sent.
-use Rattle.std.specs.Prelude.{◌≡◌, ℕ, ◌+◌, ◌≤◌, ℤ, true, false, List, [], ◌∷◌, ◌++◌, take, length, Option, Some, None, ◌⊎◌}
+use Rattle.std.specs.Prelude.{Bool, ◌≡◌, ℕ, ◌+◌, ◌≤◌, ℤ, true, false, List, [], ◌∷◌, ◌++◌, take, length, Option, Some, None, ◌⊎◌}
 use Rattle.std.specs.Io.KnownBytes.{Appends, Consumes, Keeps, IsAtEnd}
 use Rattle.ua_frame.specs.Streams.{Piece, timed}
 use Rattle.ua_conn.specs.server.Site.{Site}
@@ -42,7 +42,7 @@ pub record SentPart (said : List ℕ) (before after : Seen) (turn : Turn) : Type
 -- The server heard the bytes, behind the pieces ps: what it says to them is sent, as far as the link goes.
 pub record Heard (site : Site) (ps : List Piece) (now : ℤ) (bytes : List ℕ) (new : Shown) (before after : Seen) (turn : Turn) : Type 0 where
   pub said : List ℕ
-  pub replied : reply_bytes site (timed (more ps now bytes)) ≡ reply_bytes site (timed ps) ++ said
+  pub replied : (reverse : Bool) → reply_bytes reverse site (timed (more ps now bytes)) ≡ reply_bytes reverse site (timed ps) ++ said
   pub hands : handed site (timed (more ps now bytes)) ≡ handed site (timed ps) ++ turn.requests.items
   pub shows : GoesOn site (more ps now bytes) → new ≡ record { site = site; held = held site (more ps now bytes); failed = false }
   pub sent : Appends before.output after.output (take turn.written said)

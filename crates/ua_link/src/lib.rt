@@ -14,6 +14,6 @@ pub use client_turn::{ClientTurn, pump_client, send_output};
 pub use clock::{Clock, MachineClock};
 pub use link::{Link, LinkFault};
 pub use memory_link::MemoryLink;
-pub use serving::{Report, serve_connection};
+pub use serving::{Report, serve_connection, serve_connection_reverse};
 pub use tcp_link::TcpLink;
 pub use turn::{Turn, pump};

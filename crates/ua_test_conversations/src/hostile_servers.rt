@@ -4,6 +4,7 @@ use crate::hostile::{Fault, Row, Stage, other};
 use crate::rows::Piece::{Bytes, Changed};
 use crate::vectors::{
     ACKNOWLEDGE, CLOSE_REQUEST, FIND_BODY, FIND_RESPONSE, HELLO, OPEN_RESPONSE, RENEW_RESPONSE,
+    REVERSE_HELLO,
 };
 
 /// A header is judged as soon as its eight bytes are there.
@@ -65,9 +66,6 @@ const HEADERS: [Row; 8] = [
 fn headers_are_refused_at_their_eighth_byte(rt: HostRuntime) {
     assert_eq!(rt; other(rt.alloc(), &HEADERS), None);
 }
-
-/// A ReverseHello, by which a server would open a connection itself.
-const REVERSE_HELLO: &[u8] = b"RHEF\x2D\0\0\0\x05\0\0\0urn:a\x18\0\0\0opc.tcp://localhost:4840";
 
 const OUT_OF_TURN: Fault = Fault::Broken(0x807E_0000);
 

@@ -59,6 +59,8 @@ mod moments;
 #[cfg(test)]
 mod refusals;
 #[cfg(test)]
+mod reverse;
+#[cfg(test)]
 mod rounds;
 #[cfg(test)]
 mod rows;

@@ -22,12 +22,12 @@ pub(crate) const CALLS: [&[u8]; 4] = [HELLO, OPEN_REQUEST, FIND_REQUEST, CLOSE_R
 pub(crate) const REPLIES: [&[u8]; 3] = [ACKNOWLEDGE, OPEN_RESPONSE, FIND_RESPONSE];
 
 /// The bytes that one send takes.
-const SEND_LIMIT: usize = 100;
+pub(crate) const SEND_LIMIT: usize = 100;
 
 /// The turns of a connection, and no limit of the calls of its link.
 pub(crate) const TURNS: u32 = 16;
 
-const NO_FUSE: u32 = 64;
+pub(crate) const NO_FUSE: u32 = 64;
 
 /// A clock that stands still.
 #[derive(Clone, Copy)]
@@ -41,10 +41,10 @@ impl Clock for StillClock {
 
 /// A link over memory that passes so many calls on, and fails each one behind them.
 #[derive(Drop)]
-struct FuseLink<'a> {
-    inner: MemoryLink<'a>,
-    calls: u32,
-    failures: u64,
+pub(crate) struct FuseLink<'a> {
+    pub inner: MemoryLink<'a>,
+    pub calls: u32,
+    pub failures: u64,
 }
 
 impl<'a> FuseLink<'a> {

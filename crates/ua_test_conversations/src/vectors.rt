@@ -8,6 +8,10 @@ pub(crate) const HELLO: &[u8] =
 pub(crate) const ACKNOWLEDGE: &[u8] =
     b"ACKF\x1C\0\0\0\0\0\0\0\xFF\xFF\0\0\xFF\xFF\0\0\0\0\x10\0\x40\0\0\0";
 
+/// The ReverseHello of a server by the settings `default` that opened the connection itself.
+pub(crate) const REVERSE_HELLO: &[u8] =
+    b"RHEF\x2D\0\0\0\x05\0\0\0urn:a\x18\0\0\0opc.tcp://localhost:4840";
+
 /// An OPN with number 1 and request id 1 that asks for a channel and a token of any lifetime.
 pub(crate) const OPEN_REQUEST: &[u8] =
     b"OPNF\x84\0\0\0\0\0\0\0\x2F\0\0\0http://opcfoundation.org/UA/SecurityPolicy#None\xFF\xFF\xFF\xFF\xFF\xFF\xFF\xFF\x01\0\0\0\x01\0\0\0\x01\0\xBE\x01\0\0\0\0\0\0\0\0\0\0\x01\0\0\0\0\0\0\0\xFF\xFF\xFF\xFF\0\0\0\0\0\0\0\0\0\0\0\0\0\0\0\x01\0\0\0\xFF\xFF\xFF\xFF\0\0\0\0";

@@ -58,7 +58,7 @@ served_between s w r n up_to server down' handed' end' b more served = by served
     up = delivered w.clock w.up n (client_stream s w)
 
     -- what the server shows and what came of it, as the new world says
-    full : (reply : down' ≡ reply_bytes s.site up) → handed' ≡ handed s.site up → length r.down ≤ length down' → ServerAt s.site now up server end' →
+    full : (reply : down' ≡ reply_bytes false s.site up) → handed' ≡ handed s.site up → length r.down ≤ length down' → ServerAt s.site now up server end' →
         Between s (record w { up = up }) (served_run r server up_to handed' down' end')
     full reply hands grows at_end = record {
       clock = b.clock;
@@ -94,7 +94,7 @@ served_between s w r n up_to server down' handed' end' b more served = by served
         let moment : max (latest ps) now ≡ now = omega (arith, g.before) in
         let stream : timed (ps ++ y ∷ []) ≡ up = timed_more 0 ps y ∙ (λ i. g.stream i ++ map (at (moment i)) y.bytes) in
         let ending : end' ≡ stop (end_of s.site up) = f.came_is ∙ ap (λ v. stop (end_of s.site v)) stream in
-        full (f.out_is ∙ (λ i. (b.down_is ∙ ap (reply_bytes s.site) (sym g.stream)) i ++ f.added) ∙ sym f.replied ∙ ap (reply_bytes s.site) stream)
+        full (f.out_is ∙ (λ i. (b.down_is ∙ ap (reply_bytes false s.site) (sym g.stream)) i ++ f.added) ∙ sym (f.replied false) ∙ ap (reply_bytes false s.site) stream)
         (hands ∙ (λ i. (b.handed_are ∙ ap (handed s.site) (sym g.stream)) i ++ asked) ∙ sym f.hands ∙ ap (handed s.site) stream)
         (omega (arith, ap length f.out_is, length-append r.down f.added))
         (at_end ps asked f g end' refl ending stream)

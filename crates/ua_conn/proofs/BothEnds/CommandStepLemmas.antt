@@ -1,6 +1,6 @@
 -- One more command keeps what both ends make of all that is on the way, where the server refused nothing.
 use mathlib.Core.List.{IsPrefix}
-use Rattle.std.proofs.Common.{◌≡◌, ℕ, ◌≤◌, List, [], ◌∷◌, ◌++◌, length, None, refl, sym, ap, subst, ◌∙◌, arith}
+use Rattle.std.proofs.Common.{false, ◌≡◌, ℕ, ◌≤◌, List, [], ◌∷◌, ◌++◌, length, None, refl, sym, ap, subst, ◌∙◌, arith}
 use Rattle.std.proofs.lemmas.List.{append-nil, length-append, length-map}
 use Rattle.ua_frame.specs.Streams.{TimedByte, plain, rest_of}
 use Rattle.ua_frame.specs.StreamLaws.{length_plain}
@@ -99,12 +99,12 @@ calm_says_nothing TurnsSpent h = refl
 calm_says_nothing NoMemory h = refl
 calm_says_nothing (Refused status) h = absurd (cc h)
 
-pub plain_reply : (site : Site) (u : List TimedByte) → first_fault site u ≡ None → reply_bytes site u ≡ spelled_all site 0 (replies site (reading_of site u).past)
+pub plain_reply : (site : Site) (u : List TimedByte) → first_fault site u ≡ None → reply_bytes false site u ≡ spelled_all site 0 (replies site (reading_of site u).past)
 plain_reply site u h =
     let said = replies site (reading_of site u).past in
     ap (λ l. spelled_all site 0 (said ++ l)) (calm_says_nothing (end_of site u) h) ∙ ap (spelled_all site 0) (append-nil said)
 
-pub reaches : (s : Setup) (xs : List Sent) (u v : List TimedByte) (ps rs : List Frame) → first_fault s.site u ≡ None → IsPrefix (plain v) (reply_bytes s.site u) → Comes s xs u ps rs → length v ≤ bytes_in (past_of rs)
+pub reaches : (s : Setup) (xs : List Sent) (u v : List TimedByte) (ps rs : List Frame) → first_fault s.site u ≡ None → IsPrefix (plain v) (reply_bytes false s.site u) → Comes s xs u ps rs → length v ≤ bytes_in (past_of rs)
 reaches s xs u v ps rs calm p c =
     let site = s.site in
     let g = server_stands site [] (frames_of u) (plain (rest_of u)) in
@@ -114,7 +114,7 @@ reaches s xs u v ps rs calm p c =
     omega (
       arith,
       length_plain v,
-      prefix_length (plain v) (reply_bytes site u) p,
+      prefix_length (plain v) (reply_bytes false site u) p,
       ap length (plain_reply site u calm),
       ap (λ l. length (spelled_all site 0 (replies site l))) there,
       short,

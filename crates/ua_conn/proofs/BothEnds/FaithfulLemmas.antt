@@ -262,8 +262,8 @@ flow_kept s w i steps.Close = flow_told s w i Close (ask_fault s.asker w.cmds w.
 flow_kept s w i (steps.Tick n) = record { up = i.up; down = i.down; seen = i.seen; started = i.started }
 flow_kept s w i (steps.Up n) = record {
   up = delivered_prefix w.clock w.up n (client_stream s w) i.up;
-  down = prefix_trans (plain w.down) (server_stream s w) (reply_bytes s.site (delivered w.clock w.up n (client_stream s w))) i.down
-      (reply_grows s.site w.up (map (at (moment_of w.clock)) (take n (drop (length w.up) (client_stream s w)))));
+  down = prefix_trans (plain w.down) (server_stream s w) (reply_bytes false s.site (delivered w.clock w.up n (client_stream s w))) i.down
+      (reply_grows false s.site w.up (map (at (moment_of w.clock)) (take n (drop (length w.up) (client_stream s w)))));
   seen = i.seen;
   started = i.started;
 }

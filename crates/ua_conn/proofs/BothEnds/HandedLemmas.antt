@@ -1,6 +1,6 @@
 -- The law of both ends, its first part: what is handed on is a beginning of what was asked, and what is accepted answers its own request.
 use mathlib.Core.List.{IsPrefix}
-use Rattle.std.proofs.Common.{List, sym, ap, subst, ◌∙◌}
+use Rattle.std.proofs.Common.{false, List, sym, ap, subst, ◌∙◌}
 use Rattle.ua_frame.specs.Streams.{TimedByte, plain}
 use Rattle.ua_frame.specs.StreamLaws.{plain_append}
 use Rattle.ua_conn.specs.server.Replies.{reading_of, reply_bytes}
@@ -40,6 +40,6 @@ handed_law s schedule h is =
     let w = final s schedule in
     let i = inv s h schedule is in
     let f = fair s h w i.base i.stage in
-    let first = prefix_trans (plain w.settled) (plain w.down) (reply_bytes s.site w.up) (settled_plain w.settled w.down i.base.settles.front) i.base.flow.down in
+    let first = prefix_trans (plain w.settled) (plain w.down) (reply_bytes false s.site w.up) (settled_plain w.settled w.down i.base.settles.front) i.base.flow.down in
     let st = standing s w.cmds w.up w.settled h first in
     (f.hands, subst (λ past. AnswersInOrder s (asked_in w.cmds) (served s w) (answers w.cmds past)) (sym st.is) (f.order st.frames st.said st.are st.begins).0)

@@ -162,7 +162,7 @@ replies_sized site n limit [] lt h = tt
 replies_sized site n limit (r ∷ rs) lt h = (reply_sized site (number_after 1 n) limit r lt h.0, replies_sized site (more_numbered n r) limit rs lt h.1)
 
 -- What came of a reply: its first frames, and less than the next. It needs nothing of what was asked.
-pub reply_begins : (site : Site) (u v : List TimedByte) (more : List ℕ) → site.settings.limits.send < 2 ^ 32 → plain v ++ more ≡ reply_bytes site u → BeginsSpoken v (replies_spoken site 0 (replies_of site u))
+pub reply_begins : (site : Site) (u v : List TimedByte) (more : List ℕ) → site.settings.limits.send < 2 ^ 32 → plain v ++ more ≡ reply_bytes false site u → BeginsSpoken v (replies_spoken site 0 (replies_of site u))
 reply_begins site u v more lt e =
     let limit = max 8192 site.settings.limits.send in
     begins_spoken (replies_spoken site 0 (replies_of site u)) v more

@@ -178,10 +178,10 @@ pub record Standing (s : Setup) (cmds : Commands) (u v : List TimedByte) : Type 
   pub are : Are frames (frames_replied s.site 0 said)
   pub begins : IsPrefix said (replies s.site (reading_of s.site u).past)
 
-pub down_are : (s : Setup) (u v : List TimedByte) → IsSetup s → IsPrefix (plain v) (reply_bytes s.site u) → BeginsSpoken v (replies_spoken s.site 0 (replies_of s.site u))
+pub down_are : (s : Setup) (u v : List TimedByte) → IsSetup s → IsPrefix (plain v) (reply_bytes false s.site u) → BeginsSpoken v (replies_spoken s.site 0 (replies_of s.site u))
 down_are s u v h p = reply_begins s.site u v p.0 (omega (arith, h.site.settings.bounds.limits.send_most)) p.1
 
-pub standing : (s : Setup) (cmds : Commands) (u v : List TimedByte) → IsSetup s → IsPrefix (plain v) (reply_bytes s.site u) → Standing s cmds u v
+pub standing : (s : Setup) (cmds : Commands) (u v : List TimedByte) → IsSetup s → IsPrefix (plain v) (reply_bytes false s.site u) → Standing s cmds u v
 standing s cmds u v h p =
     let b = down_are s u v h p in
     let c = client_stands s.asker cmds [] (frames_of v) (plain (rest_of v)) in

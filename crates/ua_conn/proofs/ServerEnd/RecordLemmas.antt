@@ -1,5 +1,5 @@
 -- What a piece brings to a server that goes on depends on what is held alone.
-use Rattle.std.proofs.Common.{◌≡◌, max, List, [], ◌∷◌, ◌++◌, map, None, refl, sym, ap, subst, ◌∙◌}
+use Rattle.std.proofs.Common.{◌≡◌, max, Bool, List, [], ◌∷◌, ◌++◌, append_assoc, map, None, refl, sym, ap, subst, ◌∙◌}
 use Rattle.std.proofs.lemmas.List.{append-nil}
 use Rattle.ua_frame.specs.Streams.{Piece, plain, timed, latest, at, rest_of}
 use Rattle.ua_frame.specs.Layout.{frames_of}
@@ -8,7 +8,8 @@ use Rattle.ua_frame.specs.MomentLaws.{one_piece_more}
 use Rattle.ua_chunk.specs.Numbers.{number_after}
 use Rattle.ua_conn.specs.server.Site.{Site}
 use Rattle.ua_conn.specs.Past.{known}
-use Rattle.ua_conn.specs.server.Replies.{reading, reading_of, replies, requests, failing, spelled_all, numbered_after, end_of, reply_bytes}
+use Rattle.ua_conn.specs.server.Replies.{reading, reading_of, replies, requests, failing, spelled_all, numbered_after, end_of, answering_bytes, reply_bytes}
+use Rattle.ua_conn.specs.server.Greeting.{greeting}
 use Rattle.ua_conn.specs.server.Held.{newest_first, held, stop, GoesOn, Gains, ByRecord}
 use Rattle.ua_conn.specs.server.Machine.{run, next_after, gain}
 use Rattle.ua_conn.specs.declared.outcome.End.{End}
@@ -47,12 +48,13 @@ gained site ps x h =
     let r = run site (known site past) (frames_of s) (plain (rest_of s)) in
     let later = later_reading site ps x h in
     let was : (reading_of site (timed ps)).past ≡ past = before.goes_on h in
-    let said : reply_bytes site (timed ps) ≡ spelled_all site 0 (replies site past) =
+    let said : answering_bytes site (timed ps) ≡ spelled_all site 0 (replies site past) =
     (λ i. spelled_all site 0 (replies site (was i) ++ none_fails (end_of site (timed ps)) h i)) ∙ ap (spelled_all site 0) (append-nil (replies site past)) in
+    let answered = ap (λ R. spelled_all site 0 (replies site R.past ++ failing R.ending)) later ∙ ap (spelled_all site 0) now.replied
+    ∙ spelled_append site 0 (replies site past) r.replies
+    ∙ (λ i. sym said i ++ spelled_is_next site (numbered_after 0 (replies site past)) r.replies i) in
     record {
-      replied = ap (λ R. spelled_all site 0 (replies site R.past ++ failing R.ending)) later ∙ ap (spelled_all site 0) now.replied
-          ∙ spelled_append site 0 (replies site past) r.replies
-          ∙ (λ i. sym said i ++ spelled_is_next site (numbered_after 0 (replies site past)) r.replies i);
+      replied = λ reverse. ap (λ b. greeting reverse site.settings ++ b) answered ∙ sym (append_assoc (greeting reverse site.settings) (answering_bytes site (timed ps)) _);
       asked = ap (λ R. requests site R.past) later ∙ now.asked ∙ ap (λ p. requests site p ++ r.asked) (sym was);
       stopped = ap (λ R. stop R.ending) later ∙ ap stop now.ending;
       after = λ e.

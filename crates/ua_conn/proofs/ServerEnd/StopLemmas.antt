@@ -10,6 +10,7 @@ use Rattle.ua_conn.specs.server.Site.{Site}
 use Rattle.ua_conn.specs.Past.{Past, Known, known, is_close}
 use Rattle.ua_conn.specs.server.Faults.{fault_at, fault_in_rest, greatest_frame, frame_rows}
 use Rattle.ua_conn.specs.server.Replies.{Reading, reading, reading_of, ended, replies, requests, failing, spelled_all, end_of}
+use Rattle.ua_conn.specs.server.Greeting.{greeting}
 use Rattle.ua_conn.specs.server.Held.{stop}
 use Rattle.ua_conn.specs.server.Whole.{StaysStopped}
 use Rattle.ua_conn.specs.declared.outcome.End.{End}
@@ -80,10 +81,10 @@ reading_stays site s t e h =
     h
 
 pub stays : StaysStopped
-stays site ps qs e h =
+stays reverse site ps qs e h =
     let all : reading_of site (timed (ps ++ qs)) ≡ reading_of site (timed ps) =
     ap (reading_of site) (timed_append 0 ps qs) ∙ reading_stays site (timed ps) (timed_since (latest_since 0 ps) qs) e h in (
-      (λ i. spelled_all site 0 (replies site (all i).past ++ failing (all i).ending)),
+      (λ i. greeting reverse site.settings ++ spelled_all site 0 (replies site (all i).past ++ failing (all i).ending)),
       (λ i. requests site (all i).past),
       (λ i. (all i).ending),
     )

@@ -1,5 +1,5 @@
 -- Worked rows, by computing the definitions.
-use Rattle.std.proofs.Common.{◌≡◌, ℕ, List, [], ◌∷◌, ◌++◌, map, length, refl}
+use Rattle.std.proofs.Common.{false, ◌≡◌, ℕ, List, [], ◌∷◌, ◌++◌, map, length, refl}
 use Rattle.std.specs.Prelude.{codes, flat_map, take, drop}
 use Rattle.std.specs.List.{range_with_len}
 use Rattle.std.specs.Str.{is_utf8, chars}
@@ -42,7 +42,7 @@ use Rattle.ua_conn.proofs.Vectors.{n4, site, at_once, hello, hello_with, policy_
 
 -- what is answered to the pieces, and how they end
 abbrev Says : List Piece → List ℕ → End → Type 0
-Says ps reply ending = (reply_bytes site (timed ps) ≡ reply) × (end_of site (timed ps) ≡ ending)
+Says ps reply ending = (reply_bytes false site (timed ps) ≡ reply) × (end_of site (timed ps) ≡ ending)
 
 abbrev header_of : Request → RequestHeader
 header_of (requests.FindServers m) = m.header

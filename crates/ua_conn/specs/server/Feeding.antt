@@ -101,7 +101,7 @@ replies_of site s = replies site (reading_of site s).past ++ failing (end_of sit
 pub record Feeds (site : Site) (ps : List Piece) (x : Piece) (out out' : List ℕ) (asked : List Request) (came : Option End) (new : Shown) : Type 0 where
   pub added : List ℕ
   pub out_is : out' ≡ out ++ added
-  pub replied : reply_bytes site (timed (ps ++ x ∷ [])) ≡ reply_bytes site (timed ps) ++ added
+  pub replied : (reverse : Bool) → reply_bytes reverse site (timed (ps ++ x ∷ [])) ≡ reply_bytes reverse site (timed ps) ++ added
   pub hands : handed site (timed (ps ++ x ∷ [])) ≡ handed site (timed ps) ++ asked
   pub came_is : came ≡ stop (end_of site (timed (ps ++ x ∷ [])))
   pub shows : came ≡ None → new ≡ record { site = site; held = held site (ps ++ x ∷ []); failed = false }
@@ -121,8 +121,8 @@ abbrev pub FeedsPartAll : Shown → Piece → List ℕ → List ℕ → Type 0
 FeedsPartAll old x out out' = (ps : List Piece) → GoesOn old.site ps → held old.site ps ≡ old.held → FeedsPart old.site ps x out out'
 
 -- the loop over the pieces: those done brought no end
-pub record Answering (site : Site) (done : List Piece) (reply : List ℕ) (asked : List Request) (shown : Shown) : Type 0 where
+pub record Answering (reverse : Bool) (site : Site) (done : List Piece) (reply : List ℕ) (asked : List Request) (shown : Shown) : Type 0 where
   pub goes_on : GoesOn site done
   pub shows : shown ≡ record { site = site; held = held site done; failed = false }
-  pub replied : reply ≡ reply_bytes site (timed done)
+  pub replied : reply ≡ reply_bytes reverse site (timed done)
   pub hands : asked ≡ handed site (timed done)

@@ -1,5 +1,5 @@
 -- What a server that goes on holds of all pieces so far, and the law that nothing else of them counts.
-use Rattle.std.specs.Prelude.{◌≡◌, ℕ, List, [], ◌∷◌, ◌++◌, Option, Some, None}
+use Rattle.std.specs.Prelude.{◌≡◌, ℕ, Bool, List, [], ◌∷◌, ◌++◌, Option, Some, None}
 use Rattle.ua_frame.specs.Streams.{Piece, timed, latest, rest_of, plain}
 use Rattle.ua_frame.specs.Layout.{Frame, frames_of}
 use Rattle.ua_chunk.specs.Numbers.{number_after}
@@ -53,7 +53,7 @@ pub record Gain : Type 0 where
   pub after : Held
 
 pub record Gains (site : Site) (ps : List Piece) (x : Piece) (g : Gain) : Type 0 where
-  pub replied : reply_bytes site (timed (ps ++ x ∷ [])) ≡ reply_bytes site (timed ps) ++ g.bytes
+  pub replied : (reverse : Bool) → reply_bytes reverse site (timed (ps ++ x ∷ [])) ≡ reply_bytes reverse site (timed ps) ++ g.bytes
   pub asked : handed site (timed (ps ++ x ∷ [])) ≡ handed site (timed ps) ++ g.asked
   pub stopped : stop (end_of site (timed (ps ++ x ∷ []))) ≡ g.stopped
   pub after : g.stopped ≡ None → held site (ps ++ x ∷ []) ≡ g.after

@@ -23,6 +23,7 @@ use Rattle.ua_conn.specs.declared.outcome.End.{End}
 use Rattle.ua_conn.specs.declared.outcome.End.TheVariants.{Closed, InputEnded, Truncated, Refused}
 use Rattle.ua_service.specs.Requests.{request_of}
 use Rattle.ua_conn.specs.server.Answers.{answer_body, opened_body}
+use Rattle.ua_conn.specs.server.Greeting.{greeting}
 
 -- ---- frames of the reply
 
@@ -178,5 +179,10 @@ end_of site s = (reading_of site s).ending
 abbrev pub handed : Site → List TimedByte → List Request
 handed site s = requests site (reading_of site s).past
 
-abbrev pub reply_bytes : Site → List TimedByte → List ℕ
-reply_bytes site s = spelled_all site 0 (replies site (reading_of site s).past ++ failing (end_of site s))
+-- the frames that answer a stream, and the error that ends it
+abbrev pub answering_bytes : Site → List TimedByte → List ℕ
+answering_bytes site s = spelled_all site 0 (replies site (reading_of site s).past ++ failing (end_of site s))
+
+-- all that is said, by a server that opened the connection itself or not
+abbrev pub reply_bytes : Bool → Site → List TimedByte → List ℕ
+reply_bytes reverse site s = greeting reverse site.settings ++ answering_bytes site s

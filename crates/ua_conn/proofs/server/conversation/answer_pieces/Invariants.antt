@@ -1,4 +1,4 @@
-use Rattle.std.proofs.Common.{[], List, take}
+use Rattle.std.proofs.Common.{[], Bool, List, take}
 use Rattle.ua_frame.specs.Streams.{pieces_of}
 use Rattle.ua_service.specs.declared.request.Request.{Request}
 use Rattle.ua_conn.specs.server.Site.{Site}
@@ -6,5 +6,5 @@ use Rattle.ua_conn.specs.server.Feeding.{Answering}
 use Rattle.ua_conn.proofs.server.conversation.answer_pieces.Given as goal
 
 abbrev pub invariant-pieces : goal.invariant-pieces
-invariant-pieces g l = (site : Site) (before : List Request) → g.T.Requests.keeps l.fn.handed before → Answering site [] l.fn.reply.items before l.fn.server →
-    (asked : List Request) × g.T.Requests.keeps l.handed asked × Answering site (pieces_of (take l.now-index l.pieces)) l.reply.items asked l.server
+invariant-pieces g l = (reverse : Bool) (site : Site) (before : List Request) → g.T.Requests.keeps l.fn.handed before → Answering reverse site [] l.fn.reply.items before l.fn.server →
+    (asked : List Request) × g.T.Requests.keeps l.handed asked × Answering reverse site (pieces_of (take l.now-index l.pieces)) l.reply.items asked l.server
