@@ -1,9 +1,14 @@
 //! Servers that open the connection themselves: what they say first, and that all else is said as by any other server.
 
+ghost use Rattle.std.specs.Prelude.{◌<◌};
+
 use crate::bytes::joined;
 use crate::lending::{by_default, by_settings, judged, passes};
 use crate::links::{CALLS, Came, FuseLink, NO_FUSE, SEND_LIMIT, StillClock, TURNS, came_of};
-use crate::vectors::{ACKNOWLEDGE, FIND_RESPONSE, HELLO, OPEN_RESPONSE, REVERSE_HELLO};
+use crate::vectors::{
+    ACKNOWLEDGE, CLOSE_REQUEST, FIND_REQUEST, FIND_RESPONSE, HELLO, OPEN_REQUEST, OPEN_RESPONSE,
+    REVERSE_HELLO,
+};
 use std::alloc::{AllocError, Global};
 use ua_conn::{End, Outcome, ReverseFault, Server, answer_all_reverse, reply_all_reverse};
 use ua_disco::{DEFAULT, Settings};
@@ -15,88 +20,95 @@ const REPLIES: [&[u8]; 4] = [REVERSE_HELLO, ACKNOWLEDGE, OPEN_RESPONSE, FIND_RES
 /// The error behind a frame of another type than the one that is awaited.
 const OUT_OF_TURN: &[u8] = b"ERRF\x10\0\0\0\0\0\x7E\x80\xFF\xFF\xFF\xFF";
 
-/// What comes to a server, what it says, how many requests it hands on, and the end.
-type Row = (
-    &'static [&'static [u8]],
-    &'static [&'static [u8]],
-    usize,
-    End,
-);
-
-const ROWS: [Row; 6] = [
-    (&[], &[REVERSE_HELLO], 0, End::InputEnded),
-    (&[HELLO], &[REVERSE_HELLO, ACKNOWLEDGE], 0, End::InputEnded),
-    (&[b"HELF"], &[REVERSE_HELLO], 0, End::Truncated),
-    (&CALLS, &REPLIES, 1, End::Closed),
-    // Nor does a client say ReverseHello.
-    (
-        &[REVERSE_HELLO],
-        &[REVERSE_HELLO, OUT_OF_TURN],
-        0,
-        End::Refused(0x807E_0000),
-    ),
-    (
-        &[b"GET / HTTP/1.1\r\n"],
-        &[REVERSE_HELLO, OUT_OF_TURN],
-        0,
-        End::Refused(0x807E_0000),
-    ),
+/// The calls, all at one moment.
+const CALLED: [(i64, &[u8]); 4] = [
+    (0, HELLO),
+    (0, OPEN_REQUEST),
+    (0, FIND_REQUEST),
+    (0, CLOSE_REQUEST),
 ];
 
-fn is_outcome(outcome: &Outcome, said: &[u8], handed: usize, end: End) -> bool {
+/// What a server says, how many requests it hands on, and the end.
+type Owed<'a> = (&'a [u8], usize, End);
+
+fn is_owed(outcome: &Outcome, owed: Owed) -> bool {
+    let (said, handed, end) = owed;
     outcome.reply.as_slice() == said && outcome.handed.len() == handed && outcome.end == end
 }
 
+/// Whether that is said where no request is kept.
+fn replies(alloc: Global, settings: &Settings, pieces: &[(i64, &[u8])], owed: Owed) -> bool {
+    match reply_all_reverse(alloc, settings, 1, pieces) {
+        Ok((reply, end)) => reply.as_slice() == owed.0 && end == owed.2,
+        Err(_) => false,
+    }
+}
+
 /// Whether that is said to the pieces, with the requests and without them.
+fn answers(alloc: Global, settings: &Settings, pieces: &[(i64, &[u8])], owed: Owed) -> bool {
+    let outcome = answer_all_reverse(alloc, settings, 1, pieces).ok();
+    passes(outcome, |outcome| is_owed(outcome, owed)) && replies(alloc, settings, pieces, owed)
+}
+
+/// The same of frames one after another.
 fn says(
     alloc: Global,
     settings: &Settings,
     pieces: &[(i64, &[u8])],
-    row: &Row,
-    said: &[u8],
+    said: &[&[u8]],
+    handed: usize,
+    end: End,
 ) -> bool {
-    let (_, _, handed, end) = *row;
-    let outcome = answer_all_reverse(alloc, settings, 1, pieces).ok();
-    let replied = reply_all_reverse(alloc, settings, 1, pieces).ok();
-    passes(outcome, |outcome| is_outcome(outcome, said, handed, end))
-        && passes(replied, |replied| {
-            replied.0.as_slice() == said && replied.1 == end
-        })
-}
-
-/// The pieces, all at one moment.
-fn at_once(
-    alloc: Global,
-    bytes: &[&'static [u8]],
-) -> Result<Vec<(i64, &'static [u8])>, AllocError> {
-    let mut pieces: Vec<(i64, &'static [u8])> = Vec::new(alloc);
-    for piece in bytes {
-        pieces.push((0, *piece))?;
+    match joined(alloc, said) {
+        Ok(said) => answers(alloc, settings, pieces, (said.as_slice(), handed, end)),
+        Err(_) => false,
     }
-    Ok(pieces)
 }
 
-fn is_row(alloc: Global, settings: &Settings, row: &Row) -> bool {
-    let pieces = at_once(alloc, row.0).ok();
-    let said = joined(alloc, row.1).ok();
-    passes(said, |said| {
-        passes(pieces, |pieces| {
-            says(alloc, settings, pieces.as_slice(), row, said.as_slice())
-        })
-    })
-}
-
-fn are_rows(alloc: Global, settings: &Settings) -> bool {
-    let mut same = true;
-    for row in &ROWS {
-        same &= is_row(alloc, settings, row);
-    }
-    same
+/// Whether the pieces are answered as by any server, behind the ReverseHello.
+fn says_it_first(alloc: Global, settings: &Settings) -> bool {
+    let refused = End::Refused(0x807E_0000);
+    let out_of_turn = [REVERSE_HELLO, OUT_OF_TURN];
+    says(alloc, settings, &[], &[REVERSE_HELLO], 0, End::InputEnded)
+        && says(
+            alloc,
+            settings,
+            &[(0, HELLO)],
+            &[REVERSE_HELLO, ACKNOWLEDGE],
+            0,
+            End::InputEnded,
+        )
+        && says(
+            alloc,
+            settings,
+            &[(0, b"HELF")],
+            &[REVERSE_HELLO],
+            0,
+            End::Truncated,
+        )
+        && says(alloc, settings, &CALLED, &REPLIES, 1, End::Closed)
+        // Nor does a client say ReverseHello.
+        && says(
+            alloc,
+            settings,
+            &[(0, REVERSE_HELLO)],
+            &out_of_turn,
+            0,
+            refused,
+        )
+        && says(
+            alloc,
+            settings,
+            &[(0, b"GET / HTTP/1.1\r\n")],
+            &out_of_turn,
+            0,
+            refused,
+        )
 }
 
 #[test]
 fn a_server_that_opens_the_connection_says_reverse_hello_first(rt: HostRuntime) {
-    assert!(rt; by_default(rt.alloc(), are_rows));
+    assert!(rt; by_default(rt.alloc(), says_it_first));
 }
 
 const NO_ENDPOINT: &str = "version = 1\n[application]\nuri = \"u\"\nnames = [{ text = \"n\" }]\n";
@@ -196,7 +208,9 @@ fn served(
     limit: usize,
     calls: u32,
     turns: u32,
-) -> Option<(Came, u32)> {
+) -> Option<(Came, u32)>
+    requires { 0 < limit }
+{
     let mut link = FuseLink {
         inner: MemoryLink::new(alloc, &CALLS, limit),
         calls,
@@ -276,12 +290,9 @@ fn a_link_is_untouched_where_there_is_no_endpoint(rt: HostRuntime) {
     assert!(rt; by_settings(rt.alloc(), NO_ENDPOINT, is_untouched));
 }
 
-/// Whether the calls are answered whole, or memory runs out; `None` where it runs out for what the test makes itself.
+/// Whether the calls are answered whole, or memory runs out.
 fn answers_or_no_memory(alloc: Global, settings: &Settings) -> bool {
-    let Ok(pieces) = at_once(alloc, &CALLS) else {
-        return true;
-    };
-    match answer_all_reverse(alloc, settings, 1, pieces.as_slice()) {
+    match answer_all_reverse(alloc, settings, 1, &CALLED) {
         Ok(outcome) => outcome.reply.len() == 342 && outcome.end == End::Closed,
         Err(fault) => fault == ReverseFault::NoMemory,
     }
