@@ -7,6 +7,7 @@ pub mod Asked
 pub mod Codes
 pub mod Captures
 pub mod Ends
+pub mod Opening
 pub mod Stops
 pub mod Serving
 pub mod Digits

@@ -1,5 +1,5 @@
 -- What the command `answer` prints, and its exit status.
-use Rattle.std.specs.Prelude.{false, ◌≡◌, ℕ, List, ◌++◌, map, codes, Option, Ok, IfSome}
+use Rattle.std.specs.Prelude.{◌≡◌, ℕ, Bool, List, ◌++◌, map, codes, Option, Ok, IfSome}
 use Rattle.std.specs.Io.KnownBytes.{Appends}
 use Rattle.hex.specs.Hex.{encode_lower}
 use Rattle.ua_frame.specs.Streams.{Piece, TimedByte, moment_of, timed}
@@ -10,6 +10,7 @@ use Rattle.ua_conn.specs.server.Site.{Site}
 use Rattle.ua_conn.specs.declared.outcome.End.{End}
 use Rattle.ua_conn.specs.declared.outcome.End.TheVariants.{Closed, InputEnded, Truncated, Refused, LinkFailed, TurnsSpent, NoMemory}
 use Rattle.ua_command.specs.Printed.{status_text}
+use Rattle.ua_command.specs.Reverse.{CanOpen}
 use Rattle.ua_command.specs.Script.{Timed, script_in}
 use Rattle.ua_command.specs.Settings.{IsSettings}
 use Rattle.ua_command.specs.declared.settings.Source.{Source}
@@ -18,9 +19,9 @@ use Rattle.ua_command.specs.declared.settings.Source.{Source}
 abbrev pub site_with : Configuration → Site
 site_with settings = record { settings = settings; channel = 1 }
 
--- what it answers to a stream, and how it ends
-abbrev pub answered : Configuration → List TimedByte → List ℕ
-answered settings s = reply_bytes false (site_with settings) s
+-- what it answers to a stream, where it opened the connection itself or not, and how it ends
+abbrev pub answered : Bool → Configuration → List TimedByte → List ℕ
+answered reverse settings s = reply_bytes reverse (site_with settings) s
 
 abbrev pub ending : Configuration → List TimedByte → End
 ending settings s = end_of (site_with settings) s
@@ -49,15 +50,20 @@ answer_lines reply end = encode_lower reply ++ codes "\nend " ++ end_text end ++
 abbrev pub IsInput : Option (List ℕ) → List ℕ → Type 0
 IsInput left text = IfSome left (λ bytes. text ≡ bytes)
 
+-- all lines of the reader are good, and give pieces
+abbrev pub GivesPieces : Option (List ℕ) → Type 0
+GivesPieces left = (text : List ℕ) × (pieces : List Timed) × IsInput left text × (script_in text ≡ Ok pieces)
+
 -- the lines that answer these pieces stand behind what the writer held, and the status is that of their end
-pub record Answers (settings : Configuration) (pieces : List Timed) (old new : Option (List ℕ)) (status : ℕ) : Type 0 where
-  pub printed : Appends old new (answer_lines (answered settings (stream_of pieces)) (ending settings (stream_of pieces)))
+pub record Answers (reverse : Bool) (settings : Configuration) (pieces : List Timed) (old new : Option (List ℕ)) (status : ℕ) : Type 0 where
+  pub can_open : CanOpen reverse settings
+  pub printed : Appends old new (answer_lines (answered reverse settings (stream_of pieces)) (ending settings (stream_of pieces)))
   pub status_is : status ≡ end_status (ending settings (stream_of pieces))
 
 -- the pieces that the reader's lines give are answered
-abbrev pub AnswersInput : Configuration → Option (List ℕ) → Option (List ℕ) → Option (List ℕ) → ℕ → Type 0
-AnswersInput settings left old new status = (text : List ℕ) × (pieces : List Timed) × IsInput left text × (script_in text ≡ Ok pieces) × Answers settings pieces old new status
+abbrev pub AnswersInput : Bool → Configuration → Option (List ℕ) → Option (List ℕ) → Option (List ℕ) → ℕ → Type 0
+AnswersInput reverse settings left old new status = (text : List ℕ) × (pieces : List Timed) × IsInput left text × (script_in text ≡ Ok pieces) × Answers reverse settings pieces old new status
 
 -- they are answered by the settings of the source
-abbrev pub AnswersBy : Source → Option (List ℕ) → Option (List ℕ) → Option (List ℕ) → ℕ → Type 0
-AnswersBy source left old new status = (settings : Configuration) × IsSettings source settings × AnswersInput settings left old new status
+abbrev pub AnswersBy : Bool → Source → Option (List ℕ) → Option (List ℕ) → Option (List ℕ) → ℕ → Type 0
+AnswersBy reverse source left old new status = (settings : Configuration) × IsSettings source settings × AnswersInput reverse settings left old new status

@@ -1,7 +1,7 @@
 -- What stops the command `ask`, and its exit statuses.
 use Rattle.std.specs.Prelude.{◌≡◌, ◌⊎◌, ℕ}
 use Rattle.ua_command.specs.declared.stop.Stop.{Stop}
-use Rattle.ua_command.specs.declared.stop.Stop.TheVariants.{Words, Settings, Line, File, Link, NoMemory}
+use Rattle.ua_command.specs.declared.stop.Stop.TheVariants.{Words, Settings, Line, Reverse, File, Link, NoMemory}
 
 -- an answer, what came in its place, a link or a file that failed, or want of memory
 abbrev pub IsAskStatus : ℕ → Type 0
@@ -12,6 +12,7 @@ abbrev pub IsTalkStop : Stop → Type 0
 IsTalkStop (Words text) = ⊥
 IsTalkStop (Settings fault) = ⊥
 IsTalkStop (Line number) = ⊥
+IsTalkStop (Reverse fault) = ⊥
 IsTalkStop File = Unit {0}
 IsTalkStop Link = Unit {0}
 IsTalkStop NoMemory = Unit {0}

@@ -1,8 +1,10 @@
 -- The command line as clap reads it.
-use Rattle.std.specs.Prelude.{◌≡◌, ◌⊎◌, ◌≤◌, ℕ, codes, length, map, string_bytes, true, Some, None, Option, List, [], ◌∷◌, Ok}
+use Rattle.std.specs.Prelude.{◌≡◌, ◌⊎◌, ◌≤◌, ℕ, Bool, String, codes, length, map, string_bytes, true, false, Some, None, Option, List, [], ◌∷◌, Ok}
+use Rattle.std.specs.Global.{Global}
+use Rattle.std.specs.Str.{bytes_eq}
 use Rattle.std.specs.Str.Parse.{IsNumeral, digits_value, without_leading_plus}
 use Rattle.clap.specs.Words.{App, Rule, Row, Text, IsAmong, fault_of, first_of, new_app, new_rule, subcommand_of, with_rule, with_subcommand}
-use Rattle.clap.specs.declared.builder.action.ArgAction.TheVariants.{Set}
+use Rattle.clap.specs.declared.builder.action.ArgAction.TheVariants.{Set, SetTrue}
 use Rattle.clap.specs.declared.builder.value_parser.ValueParser.TheVariants.{Names, Unsigned}
 use Rattle.clap.specs.declared.error.kind.ErrorKind.{ErrorKind}
 use Rattle.clap.specs.declared.error.kind.ErrorKind.TheVariants.{OutOfMemory, DisplayHelp, DisplayVersion}
@@ -22,9 +24,13 @@ use Rattle.ua_command.specs.declared.settings.Source.TheVariants.{Default, File}
 use Rattle.ua_command.specs.declared.show.Capture.{Capture}
 use Rattle.ua_command.specs.declared.show.Capture.TheVariants as captures
 
--- a word that has to be there, and has one name in the help
+-- a word that may be there, and has one name in the help
+abbrev pub optional_rule : Text → Rule
+optional_rule id = record (new_rule id) { action = Some Set; value_names = 1 }
+
+-- one that has to be there
 abbrev pub word_rule : Text → Rule
-word_rule id = record (new_rule id) { required = true; action = Some Set; value_names = 1 }
+word_rule id = record (optional_rule id) { required = true }
 
 -- one that has to be among these names
 abbrev pub named_rule : Text → Lent → Rule
@@ -36,6 +42,10 @@ type_rule names = named_rule (codes "type") names
 -- a word behind `--connections` that has to be there, and a number from 1 to 65535
 abbrev pub count_rule : Rule
 count_rule = record (word_rule (codes "connections")) { long = Some (codes "connections"); parser = Some (Unsigned 1 65535) }
+
+-- the flag `--reverse`, by which the server opens the connection
+abbrev pub reverse_rule : Rule
+reverse_rule = record (new_rule (codes "reverse")) { long = Some (codes "reverse"); action = Some SetTrue }
 
 -- the names that some words have to be among, lent from some place: those of the types, and what can be asked for
 pub record Choices : Type 0 where
@@ -54,7 +64,7 @@ abbrev pub AreChoices : Choices → Type 0
 AreChoices choices = AreTypeNames choices.types × AreQuestionNames choices.questions
 
 abbrev pub answer_app : App
-answer_app = with_rule (new_app (codes "answer")) (word_rule (codes "settings"))
+answer_app = with_rule (with_rule (new_app (codes "answer")) (word_rule (codes "settings"))) reverse_rule
 
 abbrev pub value_app : Lent → App
 value_app names = with_rule (with_rule (new_app (codes "value")) (type_rule names)) (word_rule (codes "hex"))
@@ -63,10 +73,10 @@ abbrev pub show_app : App
 show_app = with_rule (new_app (codes "show")) (word_rule (codes "file"))
 
 abbrev pub serve_app : App
-serve_app = with_rule (with_rule (with_rule (new_app (codes "serve")) (word_rule (codes "settings"))) (word_rule (codes "address"))) count_rule
+serve_app = with_rule (with_rule (with_rule (with_rule (new_app (codes "serve")) (word_rule (codes "settings"))) (word_rule (codes "address"))) count_rule) reverse_rule
 
 abbrev pub ask_app : Lent → App
-ask_app names = with_rule (with_rule (with_rule (new_app (codes "ask")) (named_rule (codes "question") names)) (word_rule (codes "address"))) (word_rule (codes "url"))
+ask_app names = with_rule (with_rule (with_rule (with_rule (new_app (codes "ask")) (named_rule (codes "question") names)) (word_rule (codes "address"))) (optional_rule (codes "url"))) reverse_rule
 
 abbrev pub plain : App
 plain = let a = new_app (codes "uadisc") in record a { top = record (a.top) { no_binary_name = true; subcommand_required = true; has_version = true } }
@@ -116,25 +126,31 @@ abbrev pub IsCountOf : Option Text → ℕ → Type 0
 IsCountOf None n = ⊥
 IsCountOf (Some text) n = IsCount text n
 
--- a url has at most 4095 bytes
-abbrev pub IsUrlOf : Option Text → List ℕ → Type 0
-IsUrlOf text url = (text ≡ Some url) × (length url ≤ 4095)
+-- The text of a flag is `true` where it was given.
+abbrev pub is_given : Option Text → Bool
+is_given None = false
+is_given (Some text) = bytes_eq text (codes "true")
+
+-- A server is called by a url of at most 4095 bytes, and by none exactly where it opens the connection.
+abbrev pub IsUrlOf : Bool → Option Text → Option (String Global) → Type 0
+IsUrlOf reverse text None = (reverse ≡ true) × (text ≡ None)
+IsUrlOf reverse text (Some url) = (reverse ≡ false) × (text ≡ Some (string_bytes url)) × (length (string_bytes url) ≤ 4095)
 
 -- the word of a command
 abbrev pub word_of : Command → Text
-word_of (Answer source) = codes "answer"
+word_of (Answer source reverse) = codes "answer"
 word_of (Value kind bytes) = codes "value"
 word_of (Show capture) = codes "show"
-word_of (Serve source address connections) = codes "serve"
+word_of (Serve source address connections reverse) = codes "serve"
 word_of (Ask question address url) = codes "ask"
 
 -- the values of a command are those among these words
 abbrev pub HasValues : Words → Command → Type 0
-HasValues word (Answer source) = IsSourceOf (word (codes "settings")) source
+HasValues word (Answer source reverse) = IsSourceOf (word (codes "settings")) source × (reverse ≡ is_given (word (codes "reverse")))
 HasValues word (Value kind bytes) = (word (codes "type") ≡ Some (kind_name kind)) × IsHexOf bytes.items (word (codes "hex"))
 HasValues word (Show capture) = IsCaptureOf (word (codes "file")) capture
-HasValues word (Serve source address connections) = IsSourceOf (word (codes "settings")) source × (word (codes "address") ≡ Some (string_bytes address)) × IsCountOf (word (codes "connections")) connections
-HasValues word (Ask question address url) = (word (codes "question") ≡ Some (name_of_question question)) × (word (codes "address") ≡ Some (string_bytes address)) × IsUrlOf (word (codes "url")) (string_bytes url)
+HasValues word (Serve source address connections reverse) = IsSourceOf (word (codes "settings")) source × (word (codes "address") ≡ Some (string_bytes address)) × IsCountOf (word (codes "connections")) connections × (reverse ≡ is_given (word (codes "reverse")))
+HasValues word (Ask question address url) = (word (codes "question") ≡ Some (name_of_question question)) × (word (codes "address") ≡ Some (string_bytes address)) × IsUrlOf (is_given (word (codes "reverse"))) (word (codes "url")) url
 
 -- the command has this word, and its values are those among these words
 abbrev pub IsNamed : Text → Words → Command → Type 0
@@ -169,9 +185,9 @@ abbrev pub AsksForNothing : List Text → Type 0
 AsksForNothing words = (choices : Choices) × AreChoices choices × AsksNothingBy choices words
 
 -- what is asked for in this way is nothing, or memory ran out
-abbrev pub RefusedBy : (Command → Type 0) → WordFault → Type 0
-RefusedBy IsAsked Bad = (c : Command) → IsAsked c → ⊥
-RefusedBy IsAsked NoRoom = Unit {0}
+abbrev pub RefusedBy : {A : Type 0} → (A → Type 0) → WordFault → Type 0
+RefusedBy {A} IsAsked Bad = (c : A) → IsAsked c → ⊥
+RefusedBy {A} IsAsked NoRoom = Unit {0}
 
 -- the same of words that clap takes, which are shown no text
 abbrev pub NothingBy : (Command → Type 0) → WordsFault → Type 0

@@ -2,6 +2,7 @@ pub mod TypeNames
 pub mod Command
 pub mod Script
 pub mod Settings
+pub mod Reverse
 pub mod Stop
 pub mod Printed
 pub mod Escape

@@ -1,5 +1,5 @@
 -- What a whole run of the command does.
-use Rattle.std.specs.Prelude.{◌≡◌, ◌⊎◌, ◌≤◌, ℕ, List, Option}
+use Rattle.std.specs.Prelude.{◌≡◌, ◌⊎◌, ◌≤◌, ℕ, Bool, List, Option}
 use Rattle.std.specs.Io.KnownBytes.{Appends}
 use Rattle.clap.specs.Words.{Text}
 use Rattle.ua_command.specs.Answer.{AnswersBy}
@@ -17,7 +17,7 @@ use Rattle.ua_disco.specs.declared.fault.SettingsFault.{SettingsFault}
 use Rattle.ua_command.specs.declared.settings.Source.{Source}
 use Rattle.ua_command.specs.declared.show.Capture.{Capture}
 use Rattle.ua_command.specs.declared.show.Capture.TheVariants as captures
-use Rattle.ua_command.specs.declared.stop.Stop.TheVariants.{Words, Settings, Line, File, Link, NoMemory}
+use Rattle.ua_command.specs.declared.stop.Stop.TheVariants.{Words, Settings, Line, Reverse, File, Link, NoMemory}
 
 -- at 0 the lines of a value stand behind what the writer held, and at 1 one line that says that there is none
 pub record Shows (s : Shape) (input : List ℕ) (old new : Option (List ℕ)) (status : ℕ) : Type 0 where
@@ -27,18 +27,18 @@ pub record Shows (s : Shape) (input : List ℕ) (old new : Option (List ℕ)) (s
 
 -- What a command does with its input and output, where nothing stops it. What is printed of a connection is not said: nothing is known of what a socket carries.
 abbrev pub Does : Command → Option (List ℕ) → Option (List ℕ) → Option (List ℕ) → ℕ → Type 0
-Does (Answer source) left old new status = AnswersBy source left old new status
+Does (Answer source reverse) left old new status = AnswersBy reverse source left old new status
 Does (Value kind bytes) left old new status = Shows (shape_of kind) bytes.items old new status
 Does (Show capture) left old new status = ShowsCapture capture left old new status
-Does (Serve source address connections) left old new status = Serves source status
+Does (Serve source address connections reverse) left old new status = Serves reverse source status
 Does (Ask question address url) left old new status = IsAskStatus status
 
 -- A command that is done tells nothing but where it is one over links, which tells where it listens, and how a link failed.
 abbrev pub TellsOf : Command → Option (List ℕ) → Option (List ℕ) → Type 0
-TellsOf (Answer source) old new = new ≡ old
+TellsOf (Answer source reverse) old new = new ≡ old
 TellsOf (Value kind bytes) old new = new ≡ old
 TellsOf (Show capture) old new = new ≡ old
-TellsOf (Serve source address connections) old new = Unit {0}
+TellsOf (Serve source address connections reverse) old new = Unit {0}
 TellsOf (Ask question address url) old new = Unit {0}
 
 -- what a run has to do with: what the reader has left, and what the writers of what is printed and of what is told held before and hold then
@@ -66,27 +66,27 @@ IsDone words s status = Done words s status ⊎ (ShowsText words s.printed s.pri
 
 -- the command has settings, which are refused with this fault
 abbrev pub RefusesSettingsOf : Command → SettingsFault → Type 0
-RefusesSettingsOf (Answer source) fault = RefusesSource source fault
+RefusesSettingsOf (Answer source reverse) fault = RefusesSource source fault
 RefusesSettingsOf (Value kind bytes) fault = ⊥
 RefusesSettingsOf (Show capture) fault = ⊥
-RefusesSettingsOf (Serve source address connections) fault = RefusesSource source fault
+RefusesSettingsOf (Serve source address connections reverse) fault = RefusesSource source fault
 RefusesSettingsOf (Ask question address url) fault = ⊥
 
 -- the command is one over links
 abbrev pub IsOverLinks : Command → Type 0
-IsOverLinks (Answer source) = ⊥
+IsOverLinks (Answer source reverse) = ⊥
 IsOverLinks (Value kind bytes) = ⊥
 IsOverLinks (Show capture) = ⊥
-IsOverLinks (Serve source address connections) = Unit {0}
+IsOverLinks (Serve source address connections reverse) = Unit {0}
 IsOverLinks (Ask question address url) = Unit {0}
 
 -- the command reads its input
 abbrev pub ReadsInput : Command → Type 0
-ReadsInput (Answer source) = Unit {0}
+ReadsInput (Answer source reverse) = Unit {0}
 ReadsInput (Value kind bytes) = ⊥
 ReadsInput (Show captures.Input) = Unit {0}
 ReadsInput (Show (captures.File path)) = ⊥
-ReadsInput (Serve source address connections) = ⊥
+ReadsInput (Serve source address connections reverse) = ⊥
 ReadsInput (Ask question address url) = ⊥
 
 -- the input stays as it was, or the words ask for a command that reads it
@@ -94,11 +94,13 @@ abbrev pub LeavesInput : List Text → Option (List ℕ) → Option (List ℕ) �
 LeavesInput words old new = (new ≡ old) ⊎ ((c : Command) × AsksFor words c × ReadsInput c)
 
 -- Bad words are those that ask for nothing, bad settings those of the command, and a bad line is the first bad one of what `answer` reads by good settings.
+-- Good settings that do not let a server open the connection stop `answer` behind good lines; `serve` tells of them itself, and ends with its own status.
 -- A failed read or write stops only what was asked for, a failed link only a command over links, and want of memory may come at any words.
 abbrev pub IsStop : List Text → Option (List ℕ) → Stop → Type 0
 IsStop words left (Words text) = AsksForNothing words
 IsStop words left (Settings fault) = (c : Command) × AsksFor words c × RefusesSettingsOf c fault
-IsStop words left (Line number) = (source : Source) × AsksFor words (Answer source) × IsAnswerStop source left (Line number)
+IsStop words left (Line number) = (source : Source) × (reverse : Bool) × AsksFor words (Answer source reverse) × IsAnswerStop reverse source left (Line number)
+IsStop words left (Reverse fault) = (source : Source) × (reverse : Bool) × AsksFor words (Answer source reverse) × IsAnswerStop reverse source left (Reverse fault)
 IsStop words left File = ((c : Command) × AsksFor words c) ⊎ AsksForText words
 IsStop words left Link = (c : Command) × AsksFor words c × IsOverLinks c
 IsStop words left NoMemory = Unit {0}

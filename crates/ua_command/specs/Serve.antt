@@ -1,34 +1,42 @@
 -- What stops the command `serve`, and its exit statuses.
-use Rattle.std.specs.Prelude.{◌≡◌, ◌⊎◌, ℕ}
+use Rattle.std.specs.Prelude.{◌≡◌, ◌⊎◌, ℕ, Bool}
 use Rattle.ua_disco.specs.Configuration.{Configuration}
+use Rattle.ua_conn.specs.declared.server.greeting.ReverseFault.{ReverseFault}
+use Rattle.ua_command.specs.Reverse.{CannotOpen}
 use Rattle.ua_command.specs.Settings.{IsSettings}
 use Rattle.ua_command.specs.Stop.{IsSettingsStop}
 use Rattle.ua_command.specs.declared.settings.Source.{Source}
 use Rattle.ua_command.specs.declared.stop.Stop.{Stop}
-use Rattle.ua_command.specs.declared.stop.Stop.TheVariants.{Words, Settings, Line, File, Link, NoMemory}
+use Rattle.ua_command.specs.declared.stop.Stop.TheVariants.{Words, Settings, Line, Reverse, File, Link, NoMemory}
 
 -- all was served, a link or a file failed, or memory ran out
 abbrev pub IsServeStatus : ℕ → Type 0
 IsServeStatus status = (status ≡ 0) ⊎ (status ≡ 3) ⊎ (status ≡ 4)
 
--- A connection can't be accepted, or a line not be printed.
-abbrev pub IsServingStop : Stop → Type 0
-IsServingStop (Words text) = ⊥
-IsServingStop (Settings fault) = ⊥
-IsServingStop (Line number) = ⊥
-IsServingStop File = Unit {0}
-IsServingStop Link = Unit {0}
-IsServingStop NoMemory = ⊥
+-- A connection can't be accepted or made, or a line not be printed, or these settings do not let a server open the connection.
+abbrev pub IsServingStop : Bool → Configuration → Stop → Type 0
+IsServingStop reverse settings (Words text) = ⊥
+IsServingStop reverse settings (Settings fault) = ⊥
+IsServingStop reverse settings (Line number) = ⊥
+IsServingStop reverse settings (Reverse fault) = CannotOpen reverse settings fault
+IsServingStop reverse settings File = Unit {0}
+IsServingStop reverse settings Link = Unit {0}
+IsServingStop reverse settings NoMemory = ⊥
+
+-- how a run ends: as said above, or with 1 where the settings are the reason
+abbrev pub IsServedStatus : Bool → Configuration → ℕ → Type 0
+IsServedStatus reverse settings status = IsServeStatus status ⊎ ((status ≡ 1) × ((fault : ReverseFault) × CannotOpen reverse settings fault))
 
 -- Before anything is served, the settings may be refused, or nothing can listen at the address.
 abbrev pub IsServeStop : Source → Stop → Type 0
 IsServeStop source (Words text) = ⊥
 IsServeStop source (Settings fault) = IsSettingsStop source (Settings fault)
 IsServeStop source (Line number) = ⊥
+IsServeStop source (Reverse fault) = ⊥
 IsServeStop source File = IsSettingsStop source File
 IsServeStop source Link = Unit {0}
 IsServeStop source NoMemory = Unit {0}
 
 -- the source has settings, by which connections were served
-abbrev pub Serves : Source → ℕ → Type 0
-Serves source status = ((settings : Configuration) × IsSettings source settings) × IsServeStatus status
+abbrev pub Serves : Bool → Source → ℕ → Type 0
+Serves reverse source status = (settings : Configuration) × IsSettings source settings × IsServedStatus reverse settings status

@@ -6,8 +6,9 @@ ghost use Rattle.hex.specs.Hex.{encode_lower};
 ghost use Rattle.ua_frame.specs.Streams.{pieces_of};
 ghost use Rattle.ua_command.specs.Answer.{answer_lines, answered as answered_bytes, ending, end_text, piece_of, stream_of, IsInput, AnswersInput, AnswersBy};
 ghost use Rattle.ua_command.specs.End.{end_status};
+ghost use Rattle.ua_command.specs.Reverse.{CanOpen, IsReverseFault};
 ghost use Rattle.ua_command.specs.Script.{script_in, times};
-ghost use Rattle.ua_command.specs.Stop.{IsFileStop, IsInputStop, IsAnswerStop, IsQuiet};
+ghost use Rattle.ua_command.specs.Stop.{IsFileStop, IsInputStop, IsAnsweringStop, IsAnswerStop, IsQuiet};
 
 use crate::input::read_whole;
 use crate::script::{TimedPiece, script_of};
@@ -18,7 +19,7 @@ use std::alloc::{AllocError, Global};
 use std::fmt;
 use std::io::{Read, Write};
 use std::rt::Files;
-use ua_conn::{End, reply_all};
+use ua_conn::{End, ReverseFault, reply_all, reply_all_reverse};
 use ua_disco::Settings;
 use ua_hex::encode_onto;
 use ua_value::NoMemory;
@@ -57,17 +58,26 @@ fn lent(alloc: Global, pieces: &[TimedPiece]) -> Result<Vec<(i64, &[u8])>, NoMem
     Ok(lent)
 }
 
-/// What the pieces are answered, and how the connection ends.
+/// What the pieces are answered, and how the connection ends; `reverse` says that the server opened it.
 fn answered(
     alloc: Global,
     settings: &Settings,
+    reverse: bool,
     pieces: &[TimedPiece],
-) -> Result<(Vec<u8>, End), NoMemory>
-    ensures reply { IfOk result (λ replied. replied.0.items ≡ answered_bytes settings.now (stream_of (times pieces.now))) }
+) -> Result<(Vec<u8>, End), ReverseFault>
+    ensures can_open { IfOk result (λ _. CanOpen reverse settings.now) }
+    ensures reply { IfOk result (λ replied. replied.0.items ≡ answered_bytes reverse settings.now (stream_of (times pieces.now))) }
     ensures end { IfOk result (λ replied. replied.1 ≡ ending settings.now (stream_of (times pieces.now))) }
+    ensures fault { IfErr result (IsReverseFault reverse settings.now) }
 {
     let lent = lent(alloc, pieces)?;
-    reply_all(alloc, settings, CHANNEL, lent.as_slice())
+    if reverse {
+        return reply_all_reverse(alloc, settings, CHANNEL, lent.as_slice());
+    }
+    match reply_all(alloc, settings, CHANNEL, lent.as_slice()) {
+        Ok(replied) => Ok(replied),
+        Err(_) => Err(ReverseFault::NoMemory),
+    }
 }
 
 /// The end of the line of the reply, and the line of the end.
@@ -139,34 +149,38 @@ fn pieces_in<I: Read>(alloc: Global, input: &mut I) -> Result<Vec<TimedPiece>, S
 fn answer_input<I: Read, O: Write>(
     alloc: Global,
     settings: &Settings,
+    reverse: bool,
     input: &mut I,
     output: &mut O,
 ) -> Result<u8, Stop>
-    ensures ok { IfOk result (AnswersInput settings.now (I.remaining input.old) (O.contents output.old) (O.contents output.new)) }
-    ensures err { IfErr result (IsInputStop (I.remaining input.old)) }
+    ensures ok { IfOk result (AnswersInput reverse settings.now (I.remaining input.old) (O.contents output.old) (O.contents output.new)) }
+    ensures err { IfErr result (IsAnsweringStop reverse settings.now (I.remaining input.old)) }
     ensures quiet { IfErr result (λ stop. IsQuiet stop (O.contents output.old) (O.contents output.new)) }
 {
     let pieces = pieces_in(alloc, input)?;
-    let (reply, end) = answered(alloc, settings, pieces.as_slice())?;
+    let (reply, end) = answered(alloc, settings, reverse, pieces.as_slice())?;
     print_answer(alloc, reply.as_slice(), end, output)?;
     Ok(status_of(end))
 }
 
 /// Answers the pieces that the input gives by the settings of the source, prints the reply and the end, and gives the
-/// exit status: 0 where a close came or the input ended behind a whole frame, else 1.
+/// exit status: 0 where a close came or the input ended behind a whole frame, else 1. `reverse` says that the server
+/// opened the connection itself, so that the reply begins with its ReverseHello.
 ///
 /// The settings are read first. Nothing is printed before they were understood, the input was read to its end, all of
-/// its lines were understood and the lines of the answer are made.
+/// its lines were understood and the lines of the answer are made. That these settings do not let a server open a
+/// connection is found behind the lines.
 pub fn answer<R: Files + AllocGlobal, I: Read, O: Write>(
     rt: &R,
     source: &Source,
+    reverse: bool,
     input: &mut I,
     output: &mut O,
 ) -> Result<u8, Stop>
-    ensures ok { IfOk result (AnswersBy source.now (I.remaining input.old) (O.contents output.old) (O.contents output.new)) }
-    ensures err { IfErr result (IsAnswerStop source.now (I.remaining input.old)) }
+    ensures ok { IfOk result (AnswersBy reverse source.now (I.remaining input.old) (O.contents output.old) (O.contents output.new)) }
+    ensures err { IfErr result (IsAnswerStop reverse source.now (I.remaining input.old)) }
     ensures quiet { IfErr result (λ stop. IsQuiet stop (O.contents output.old) (O.contents output.new)) }
 {
     let settings = settings_in(rt, source)?;
-    answer_input(rt.alloc(), &settings, input, output)
+    answer_input(rt.alloc(), &settings, reverse, input, output)
 }

@@ -1,22 +1,23 @@
 //! The command `ask`: asks a server over TCP for the servers that it knows, or for its endpoints.
 
-ghost use Rattle.std.specs.Prelude.{◌≡◌, ◌⊎◌, ◌<◌, ◌≤◌, ◌-◌, ◌^◌, length, None, Some, IsOk, IfOk, IfErr, MatchOption, MatchResult};
+ghost use Rattle.std.specs.Prelude.{◌≡◌, ◌⊎◌, ◌<◌, ◌≤◌, ◌-◌, ◌^◌, length, None, Some, IfOk, IfErr, IfSome, MatchOption};
 ghost use Rattle.ua_command.specs.Ask.{IsAskStatus, IsTalkStop};
 ghost use Rattle.ua_command.specs.Command.{AreQuestionNames, name_of_question};
 ghost use Rattle.ua_command.specs.declared.ask.Question.{Question};
 
 mod lines;
+mod reaching;
 
 use crate::ask::lines::{Outcome, lines_of};
+use crate::ask::reaching::{ask_at, ask_caller};
 use crate::run::told;
 use crate::stop::{Stop, print};
 use std::alloc::{AllocError, Global};
-use std::io;
-use std::io::{Read, Write};
-use std::net::{Net, TcpStream};
+use std::io::Write;
+use std::net::{Net, TcpListener, TcpStream};
 use std::rt::Clock as HostClock;
 use ua_conn::{Answer, AnswerResult, AskFault, Client, ClientConfig, ClientFault};
-use ua_link::{ClientTurn, Clock, Link, MachineClock, TcpLink, pump_client, send_output};
+use ua_link::{ClientTurn, Clock, Link, pump_client, send_output};
 use ua_service::{FindServersRequest, GetEndpointsRequest, Request, request_header};
 use ua_value::plumbing::let_go;
 use ua_value::{Array, DateTime, NoMemory, UaString};
@@ -75,17 +76,35 @@ fn text_of(alloc: Global, url: &str) -> Result<UaString, NoMemory>
     }
 }
 
-/// A client that greets the server by this url.
-fn client_of(alloc: Global, url: &str) -> Result<Client, NoMemory>
-    requires { length url.now ≤ 4095 }
+/// A client that greets the server by this url, or without one waits until the server says by which.
+fn client_of(alloc: Global, url: Option<&str>) -> Result<Client, NoMemory>
+    requires { IfSome url (λ url. length url.now ≤ 4095) }
 {
-    let url = text_of(alloc, url)?;
-    Client::new(alloc, CONFIG, &url, 1)
+    match url {
+        Some(url) => {
+            let url = text_of(alloc, url)?;
+            Client::new(alloc, CONFIG, &url, 1)
+        }
+        None => Client::new_reverse(alloc, CONFIG, 1),
+    }
+}
+
+/// The url that a request names, which is null where there is none.
+fn named_url(alloc: Global, url: Option<&str>) -> Result<UaString, NoMemory> {
+    match url {
+        Some(url) => text_of(alloc, url),
+        None => Ok(UaString::null()),
+    }
 }
 
 /// The request: no locales, and all that there is.
-fn request_of(alloc: Global, now: i64, question: Question, url: &str) -> Result<Request, NoMemory> {
-    let endpoint_url = text_of(alloc, url)?;
+fn request_of(
+    alloc: Global,
+    now: i64,
+    question: Question,
+    url: Option<&str>,
+) -> Result<Request, NoMemory> {
+    let endpoint_url = named_url(alloc, url)?;
     let header = request_header(DateTime(now), HANDLE);
     Ok(match question {
         Question::Find => Request::FindServers(FindServersRequest {
@@ -117,7 +136,7 @@ fn is_asked(
     client: &mut Client,
     now: i64,
     question: Question,
-    url: &str,
+    url: Option<&str>,
 ) -> Result<bool, AskFault> {
     let request = request_of(alloc, now, question, url)?;
     match client.ask(now, request, PART_LIMIT) {
@@ -214,7 +233,7 @@ fn talk<L: Link, C: Clock>(
     link: &mut L,
     clock: &mut C,
     question: Question,
-    url: &str,
+    url: Option<&str>,
 ) -> Result<Outcome, Stop>
     requires { L.fault_count link.old < 2 ^ 64 - 1 }
     ensures { IfErr result IsTalkStop }
@@ -242,9 +261,9 @@ fn talk_anew<L: Link, C: Clock>(
     link: &mut L,
     clock: &mut C,
     question: Question,
-    url: &str,
+    url: Option<&str>,
 ) -> Result<Outcome, Stop>
-    requires url { length url.now ≤ 4095 }
+    requires url { IfSome url (λ url. length url.now ≤ 4095) }
     requires countable { L.fault_count link.old < 2 ^ 64 - 1 }
     ensures { IfErr result IsTalkStop }
 {
@@ -312,7 +331,8 @@ fn status_of<O: Write, E: Write>(
 }
 
 /// Asks a server over a link, which the client calls by the url of at most 4095 bytes: opens a channel, asks, and closes
-/// the channel after the answer. The answer is printed.
+/// the channel after the answer. Without a url the client waits for the server's ReverseHello, calls it by the url that
+/// this says, and names none in its request. The answer is printed.
 ///
 /// The result is the exit status: 0 for an answer; 1 for a fault, an abort, an error of the server or a frame that the
 /// client refuses, which is printed, and where the server takes no such request, which is told on `errors`; 3 where the
@@ -323,11 +343,11 @@ pub fn ask_over<L: Link, C: Clock, O: Write, E: Write>(
     link: &mut L,
     clock: &mut C,
     question: Question,
-    url: &str,
+    url: Option<&str>,
     output: &mut O,
     errors: &mut E,
 ) -> u8
-    requires url { length url.now ≤ 4095 }
+    requires url { IfSome url (λ url. length url.now ≤ 4095) }
     requires countable { L.fault_count link.old < 2 ^ 64 - 1 }
     ensures { IsAskStatus result }
 {
@@ -341,50 +361,15 @@ pub fn ask_over<L: Link, C: Clock, O: Write, E: Write>(
     }
 }
 
-/// Asks the server at the other end of a stream. `Link` says that there is no stream, and nothing else is said of that.
-fn ask_at<R, S, O, E>(
-    rt: &R,
-    stream: io::Result<S>,
-    question: Question,
-    url: &str,
-    output: &mut O,
-    errors: &mut E,
-) -> Result<u8, Stop>
-where
-    R: HostClock + AllocGlobal,
-    S: Read + Write + Drop,
-    O: Write,
-    E: Write,
-    requires { length url.now ≤ 4095 }
-    ensures reached { MatchResult stream (λ _. IsOk result) (λ _. result ≡ Err Stop.Link) }
-    ensures ok { IfOk result IsAskStatus }
-    ensures err { IfErr result (λ stop. stop ≡ Stop.Link) }
-    ensures quiet { IfErr result (λ _. O.contents output.new ≡ O.contents output.old) }
-    ensures untold { IfErr result (λ _. E.contents errors.new ≡ E.contents errors.old) }
-{
-    let Ok(stream) = stream else {
-        return Err(Stop::Link);
-    };
-    let mut link = TcpLink::new(stream);
-    let mut clock = MachineClock::new(rt);
-    Ok(ask_over(
-        rt.alloc(),
-        &mut link,
-        &mut clock,
-        question,
-        url,
-        output,
-        errors,
-    ))
-}
-
-/// Connects to the address, and asks the server there. `Link` says that nobody listens at the address, and nothing is
-/// printed then.
+/// Connects to the address, and asks the server there. Without a url it listens at the address, tells on `errors` which
+/// one it is, and asks the server that comes there first.
+///
+/// `Link` says that nobody listens at the address, or that nothing can, and nothing is printed then.
 pub fn ask<R, O, E>(
     rt: &R,
     question: Question,
     address: &str,
-    url: &str,
+    url: Option<&str>,
     output: &mut O,
     errors: &mut E,
 ) -> Result<u8, Stop>
@@ -392,12 +377,20 @@ where
     R: Net + HostClock + AllocGlobal,
     O: Write,
     E: Write,
-    requires { length url.now ≤ 4095 }
+    requires { IfSome url (λ url. length url.now ≤ 4095) }
     ensures ok { IfOk result IsAskStatus }
     ensures err { IfErr result (λ stop. stop ≡ Stop.Link) }
     ensures quiet { IfErr result (λ _. O.contents output.new ≡ O.contents output.old) }
     ensures untold { IfErr result (λ _. E.contents errors.new ≡ E.contents errors.old) }
 {
-    let stream = TcpStream::connect(rt, address);
-    ask_at(rt, stream, question, url, output, errors)
+    match url {
+        Some(url) => {
+            let stream = TcpStream::connect(rt, address);
+            ask_at(rt, stream, question, url, output, errors)
+        }
+        None => {
+            let listener = TcpListener::bind(rt, address);
+            ask_caller(rt, listener, question, output, errors)
+        }
+    }
 }

@@ -3,7 +3,7 @@
 ghost use Rattle.std.specs.Prelude.{◌≡◌, ℕ, IfOk, IfErr, MatchOption, Some, codes, map};
 ghost use Rattle.clap.specs.Words.{subcommand_rows_of, first_value, found_of};
 ghost use Rattle.clap.specs.Values.{kind_of};
-ghost use Rattle.ua_command.specs.Command.{Asks, AsksFor, IsWordsFault, IsErrorFault, IsNamed, IsCount, IsSourceOf, RefusedBy, NothingBy};
+ghost use Rattle.ua_command.specs.Command.{Asks, AsksFor, IsWordsFault, IsErrorFault, IsNamed, IsCount, IsSourceOf, IsUrlOf, RefusedBy, NothingBy, is_given};
 
 mod parsers;
 
@@ -24,8 +24,12 @@ const LONGEST_URL: usize = 4095;
 /// What the words ask for.
 #[derive(Debug, Drop)]
 pub enum Command {
-    /// Answer the pieces of standard input by the settings of this source.
-    Answer(Source),
+    /// Answer the pieces of standard input by the settings of this source, as a server that opened the connection itself
+    /// or not.
+    Answer {
+        source: Source,
+        reverse: bool,
+    },
     /// Read a value of this type from these bytes.
     Value {
         kind: Kind,
@@ -33,17 +37,20 @@ pub enum Command {
     },
     /// Show the frames of this capture.
     Show(Capture),
-    /// Serve so many connections, one after the other, at this address, by the settings of this source.
+    /// Serve so many connections, one after the other, by the settings of this source: those that come to this address,
+    /// or that are made to it.
     Serve {
         source: Source,
         address: String,
         connections: u16,
+        reverse: bool,
     },
-    /// Ask this of the server at an address, which the client calls by this url.
+    /// Ask this of the server at an address, which the client calls by this url; without one, of the server that comes to
+    /// the address.
     Ask {
         question: Question,
         address: String,
-        url: String,
+        url: Option<String>,
     },
 }
 
@@ -76,7 +83,8 @@ enum WordFault {
 ///
 /// `Shown` where the words ask for help or for the version, with its text. `Refused` where they are
 /// no command, with the text to print: that of `clap` where it refuses them, and `words` where it
-/// takes them and the hex is none. `NoMemory` where a growth was refused.
+/// takes them and the hex is none, a url is too long, or one stands beside `--reverse` or is
+/// missing without it. `NoMemory` where a growth was refused.
 pub fn command_of(alloc: Global, words: &[&str]) -> Result<Command, WordsFault>
     ensures asked { IfOk result (AsksFor (map (λ w. w.now) words.entry.now)) }
     ensures refused { IfErr result (IsWordsFault (map (λ w. w.now) words.entry.now)) }
@@ -139,17 +147,27 @@ fn command_in(alloc: Global, matches: &ArgMatches) -> Result<Command, WordFault>
     }
 }
 
+/// Whether `--reverse` was given: the text of a flag is `true` then.
+fn is_reverse(matches: &ArgMatches) -> bool
+    ensures { result ≡ is_given (first_value (found_of matches.now) (codes "reverse")) }
+{
+    match matches.get_str("reverse") {
+        Some(text) => text == "true",
+        None => false,
+    }
+}
+
 fn answer_in(alloc: Global, matches: &ArgMatches) -> Result<Command, WordFault>
     ensures asked { IfOk result (IsNamed (codes "answer") (first_value (found_of matches.now))) }
     ensures refused { IfErr result (RefusedBy (IsNamed (codes "answer") (first_value (found_of matches.now)))) }
 {
-    match matches.get_str("settings") {
-        Some("default") => Ok(Command::Answer(Source::Default)),
-        Some(path) => match String::from_str(alloc, path) {
-            Ok(path) => Ok(Command::Answer(Source::File(path))),
-            Err(_) => Err(WordFault::NoMemory),
-        },
-        None => Err(WordFault::Bad),
+    let Some(settings) = matches.get_str("settings") else {
+        return Err(WordFault::Bad);
+    };
+    let reverse = is_reverse(matches);
+    match source_of(alloc, settings) {
+        Ok(source) => Ok(Command::Answer { source, reverse }),
+        Err(_) => Err(WordFault::NoMemory),
     }
 }
 
@@ -223,6 +241,7 @@ fn serve_in(alloc: Global, matches: &ArgMatches) -> Result<Command, WordFault>
     let Some(connections) = count_of(connections) else {
         return Err(WordFault::Bad);
     };
+    let reverse = is_reverse(matches);
     let Ok(address) = String::from_str(alloc, address) else {
         return Err(WordFault::NoMemory);
     };
@@ -231,7 +250,33 @@ fn serve_in(alloc: Global, matches: &ArgMatches) -> Result<Command, WordFault>
             source,
             address,
             connections,
+            reverse,
         }),
+        Err(_) => Err(WordFault::NoMemory),
+    }
+}
+
+/// The url by which a server is called, of at most 4095 bytes. There is none exactly where the server opens the
+/// connection.
+fn url_in(alloc: Global, matches: &ArgMatches) -> Result<Option<String>, WordFault>
+    ensures asked { IfOk result (IsUrlOf (is_given (first_value (found_of matches.now) (codes "reverse"))) (first_value (found_of matches.now) (codes "url"))) }
+    ensures refused { IfErr result (RefusedBy (IsUrlOf (is_given (first_value (found_of matches.now) (codes "reverse"))) (first_value (found_of matches.now) (codes "url")))) }
+{
+    let reverse = is_reverse(matches);
+    let Some(url) = matches.get_str("url") else {
+        if !reverse {
+            return Err(WordFault::Bad);
+        }
+        return Ok(None);
+    };
+    if reverse {
+        return Err(WordFault::Bad);
+    }
+    if url.len() > LONGEST_URL {
+        return Err(WordFault::Bad);
+    }
+    match String::from_str(alloc, url) {
+        Ok(url) => Ok(Some(url)),
         Err(_) => Err(WordFault::NoMemory),
     }
 }
@@ -246,20 +291,12 @@ fn ask_in(alloc: Global, matches: &ArgMatches) -> Result<Command, WordFault>
     let Some(address) = matches.get_str("address") else {
         return Err(WordFault::Bad);
     };
-    let Some(url) = matches.get_str("url") else {
-        return Err(WordFault::Bad);
-    };
     let Some(question) = question_of(question) else {
         return Err(WordFault::Bad);
     };
-    if url.len() > LONGEST_URL {
-        return Err(WordFault::Bad);
-    }
-    let Ok(address) = String::from_str(alloc, address) else {
-        return Err(WordFault::NoMemory);
-    };
-    match String::from_str(alloc, url) {
-        Ok(url) => Ok(Command::Ask {
+    let url = url_in(alloc, matches)?;
+    match String::from_str(alloc, address) {
+        Ok(address) => Ok(Command::Ask {
             question,
             address,
             url,

@@ -23,7 +23,7 @@ mod value;
 
 pub use ask::{Question, ask_over};
 pub use command::{Command, WordsFault, command_of};
-pub use serve::{serve_on, status_with};
+pub use serve::{serve_on, serve_to, status_with};
 pub use settings::Source;
 pub use show::Capture;
 pub use stop::Stop;

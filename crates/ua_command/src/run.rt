@@ -18,11 +18,11 @@ use std::net::Net;
 use std::rt::{Clock, Files};
 
 /// Runs the command that the words are, which are those after the program's name, and gives the
-/// exit status: 0 done, 1 settings or input refused, a capture with a frame that is refused or cut, or a question that
-/// got no answer, 2 words refused, 3 a failed read or write, or a link that failed, 4 want of memory. Help and the
-/// version are printed on `output`, with status 0. What stopped the command is told on `errors`, where a failed write is
-/// passed over; `serve` tells there at which address it listens. The input is read by `answer` alone, and by `show` of
-/// standard input.
+/// exit status: 0 done, 1 settings or input refused, settings by which no connection can be opened, a capture with a
+/// frame that is refused or cut, or a question that got no answer, 2 words refused, 3 a failed read or write, or a link
+/// that failed, 4 want of memory. Help and the version are printed on `output`, with status 0. What stopped the command
+/// is told on `errors`, where a failed write is passed over; `serve` tells there at which address it listens, and so does
+/// `ask` where it does. The input is read by `answer` alone, and by `show` of standard input.
 pub fn run<R, I, O, E>(rt: &R, words: &[&str], input: &mut I, output: &mut O, errors: &mut E) -> u8
 where
     R: Files + Net + Clock + AllocGlobal,
@@ -89,18 +89,34 @@ where
         Err(WordsFault::NoMemory) => return Err(Stop::NoMemory),
     };
     match command {
-        Command::Answer(source) => answer(rt, &source, input, output),
+        Command::Answer { source, reverse } => answer(rt, &source, reverse, input, output),
         Command::Value { kind, bytes } => value(rt.alloc(), kind, bytes.as_slice(), output),
         Command::Show(capture) => show(rt, &capture, input, output),
         Command::Serve {
             source,
             address,
             connections,
-        } => serve(rt, &source, address.as_str(), connections, output, errors),
+            reverse,
+        } => serve(
+            rt,
+            &source,
+            address.as_str(),
+            connections,
+            reverse,
+            output,
+            errors,
+        ),
         Command::Ask {
             question,
             address,
             url,
-        } => ask(rt, question, address.as_str(), url.as_str(), output, errors),
+        } => ask(
+            rt,
+            question,
+            address.as_str(),
+            url.as_deref(),
+            output,
+            errors,
+        ),
     }
 }

@@ -1,7 +1,7 @@
 //! The command `serve`: serves connections over TCP, one after the other.
 
-ghost use Rattle.std.specs.Prelude.{◌≡◌, ◌<◌, IsOk, IfOk, IfErr, MatchResult};
-ghost use Rattle.ua_command.specs.Serve.{IsServeStatus, IsServeStop, IsServingStop, Serves};
+ghost use Rattle.std.specs.Prelude.{◌≡◌, ◌<◌, true, IsOk, IfOk, IfErr, MatchResult};
+ghost use Rattle.ua_command.specs.Serve.{IsServeStatus, IsServedStatus, IsServeStop, IsServingStop, Serves};
 
 use crate::answer::Ending;
 use crate::run::told;
@@ -9,11 +9,11 @@ use crate::settings::{Source, settings_in};
 use crate::stop::{Stop, print};
 use std::io;
 use std::io::{Read, Write};
-use std::net::{Net, OpenListener, TcpListener};
+use std::net::{Net, OpenListener, TcpListener, TcpStream};
 use std::rt::{Clock, Files};
-use ua_conn::End;
+use ua_conn::{End, ReverseFault};
 use ua_disco::Settings;
-use ua_link::{MachineClock, TcpLink, serve_connection};
+use ua_link::{MachineClock, Report, TcpLink, serve_connection, serve_connection_reverse};
 use ua_value::plumbing::let_go;
 
 /// The most reads of one connection.
@@ -40,23 +40,43 @@ fn total(cuts: &[(i64, usize)]) -> u64 {
     total
 }
 
-/// Serves one connection over a stream, which is closed then.
-fn serve_stream<R: Clock + AllocGlobal, S: Read + Write + Drop>(
-    rt: &R,
-    settings: &Settings,
-    id: u32,
-    stream: S,
-) -> Served
-    requires { 0 < id }
-{
-    let mut link = TcpLink::new(stream);
-    let mut clock = MachineClock::new(rt);
-    let report = serve_connection(rt.alloc(), settings, id, &mut link, &mut clock, TURNS);
+/// What a connection came to, whose channel has this id.
+fn served_so(id: u32, report: &Report) -> Served {
     Served {
         id,
         end: report.end,
         read: total(report.cuts.as_slice()),
         written: report.written,
+    }
+}
+
+/// Serves one connection over a stream, which is closed then; `reverse` says that this end opened it. Where there was no
+/// memory to begin it, it came to nothing.
+fn serve_stream<R: Clock + AllocGlobal, S: Read + Write + Drop>(
+    rt: &R,
+    settings: &Settings,
+    reverse: bool,
+    id: u32,
+    stream: S,
+) -> Result<Served, Stop>
+    requires { 0 < id }
+    ensures { IfErr result (IsServingStop reverse settings.now) }
+{
+    let mut link = TcpLink::new(stream);
+    let mut clock = MachineClock::new(rt);
+    if !reverse {
+        let report = serve_connection(rt.alloc(), settings, id, &mut link, &mut clock, TURNS);
+        return Ok(served_so(id, &report));
+    }
+    match serve_connection_reverse(rt.alloc(), settings, id, &mut link, &mut clock, TURNS) {
+        Ok(report) => Ok(served_so(id, &report)),
+        Err(ReverseFault::NoMemory) => Ok(Served {
+            id,
+            end: End::NoMemory,
+            read: 0,
+            written: 0,
+        }),
+        Err(fault) => Err(Stop::Reverse(fault)),
     }
 }
 
@@ -95,32 +115,97 @@ pub fn status_with(status: u8, end: End) -> u8
     }
 }
 
-/// Serves the connections, and gives the exit status of their ends.
-fn serve_all<R, L, O>(
+/// What gives the streams of connections, one after the other.
+trait Streams {
+    type Stream: Read + Write + Drop;
+
+    /// The stream of the next connection.
+    fn next(&self) -> io::Result<Self::Stream>;
+}
+
+/// Those that a listener accepts.
+#[derive(Drop)]
+struct Accepted<'a, L> {
+    listener: &'a L,
+}
+
+impl<'a, L> Streams for Accepted<'a, L>
+where
+    L: OpenListener,
+    L::Stream: Read + Write,
+{
+    type Stream = L::Stream;
+
+    fn next(&self) -> io::Result<L::Stream> {
+        let (stream, _) = self.listener.accept()?;
+        Ok(stream)
+    }
+}
+
+/// Those that are made to an address.
+#[derive(Drop)]
+struct Made<'a, R> {
+    rt: &'a R,
+    address: &'a str,
+}
+
+impl<'a, R: Net> Streams for Made<'a, R> {
+    type Stream = R::Stream;
+
+    fn next(&self) -> io::Result<R::Stream> {
+        TcpStream::connect(self.rt, self.address)
+    }
+}
+
+/// Serves so many connections, and gives the exit status of their ends; `reverse` says that this end opens them.
+fn serve_all<R, T, O>(
     rt: &R,
-    listener: &L,
+    streams: &T,
     settings: &Settings,
+    reverse: bool,
     connections: u16,
     output: &mut O,
 ) -> Result<u8, Stop>
 where
     R: Clock + AllocGlobal,
-    L: OpenListener,
-    L::Stream: Read + Write,
+    T: Streams,
     O: Write,
     ensures status { IfOk result IsServeStatus }
-    ensures stop { IfErr result IsServingStop }
+    ensures stop { IfErr result (IsServingStop reverse settings.now) }
 {
     let mut status = 0;
     'connections: for before in 0..connections {
-        let Ok((stream, _)) = listener.accept() else {
+        let Ok(stream) = streams.next() else {
             return Err(Stop::Link);
         };
-        let served = serve_stream(rt, settings, u32::from(before) + 1, stream);
+        let served = serve_stream(rt, settings, reverse, u32::from(before) + 1, stream)?;
         status = status_with(status, served.end);
         print_line(output, served)?;
     }
     Ok(status)
+}
+
+/// The same, and tells on `errors` what ended it before.
+fn serve_or_tell<R, T, O, E>(
+    rt: &R,
+    streams: &T,
+    settings: &Settings,
+    reverse: bool,
+    connections: u16,
+    output: &mut O,
+    errors: &mut E,
+) -> u8
+where
+    R: Clock + AllocGlobal,
+    T: Streams,
+    O: Write,
+    E: Write,
+    ensures { IsServedStatus reverse settings.now result }
+{
+    match serve_all(rt, streams, settings, reverse, connections, output) {
+        Ok(status) => status,
+        Err(stop) => told(&stop, errors),
+    }
 }
 
 /// Serves so many connections of a listener, one after the other, by these settings; their channels have the ids from 1
@@ -146,14 +231,37 @@ where
     E: Write,
     ensures { IsServeStatus result }
 {
-    match serve_all(rt, listener, settings, connections, output) {
-        Ok(status) => status,
-        Err(stop) => told(&stop, errors),
-    }
+    let streams = Accepted { listener };
+    serve_or_tell(rt, &streams, settings, false, connections, output, errors)
+}
+
+/// Serves so many connections that it makes to an address, one after the other, by these settings: each begins with the
+/// server's ReverseHello, and goes on as one of `serve_on` does, with the same ids and lines. One for which there is no
+/// memory has the line `connection ID memory read 0 written 0`. OPC 10000-6, 7.1.2.6.
+///
+/// The result is the exit status: 3 where a connection can't be made or a line can't be printed, and 1 where the settings
+/// do not let a server open a connection, which is found once the first is made; both end the call and are told on
+/// `errors`. Else it is that of `serve_on`.
+pub fn serve_to<R, O, E>(
+    rt: &R,
+    address: &str,
+    settings: &Settings,
+    connections: u16,
+    output: &mut O,
+    errors: &mut E,
+) -> u8
+where
+    R: Net + Clock + AllocGlobal,
+    O: Write,
+    E: Write,
+    ensures { IsServedStatus true settings.now result }
+{
+    let streams = Made { rt, address };
+    serve_or_tell(rt, &streams, settings, true, connections, output, errors)
 }
 
 /// Tells at which address a listener listens; a failed write is passed over.
-fn tell_address<L: OpenListener, E: Write>(listener: &L, errors: &mut E) {
+pub fn tell_address<L: OpenListener, E: Write>(listener: &L, errors: &mut E) {
     if let Ok(address) = listener.local_addr() {
         let _ = writeln!(errors, "listening {address}");
         let _ = errors.flush();
@@ -188,8 +296,36 @@ where
     Ok(serve_on(rt, &listener, settings, connections, output, errors))
 }
 
-/// Listens at the address, tells on `errors` which one it is, serves so many connections by the settings of the source,
-/// and gives the exit status of `serve_on`.
+/// Serves so many connections by these settings, at the address or to it, and gives the exit status of `serve_on` or
+/// `serve_to`. `Link` says that nothing can listen at the address, and nothing else is said of that.
+fn serve_by<R, O, E>(
+    rt: &R,
+    settings: &Settings,
+    address: &str,
+    connections: u16,
+    reverse: bool,
+    output: &mut O,
+    errors: &mut E,
+) -> Result<u8, Stop>
+where
+    R: Net + Clock + AllocGlobal,
+    O: Write,
+    E: Write,
+    ensures ok { IfOk result (IsServedStatus reverse settings.now) }
+    ensures err { IfErr result (λ stop. stop ≡ Stop.Link) }
+    ensures quiet { IfErr result (λ _. O.contents output.new ≡ O.contents output.old) }
+    ensures untold { IfErr result (λ _. E.contents errors.new ≡ E.contents errors.old) }
+{
+    if reverse {
+        let status = serve_to(rt, address, settings, connections, output, errors);
+        return Ok(status);
+    }
+    let listener = TcpListener::bind(rt, address);
+    serve_at(rt, settings, listener, connections, output, errors)
+}
+
+/// Serves so many connections by the settings of the source, and gives the exit status. It listens at the address, and
+/// tells on `errors` which one it is, or where `reverse` says so makes the connections to the address.
 ///
 /// The settings are read first, and `Link` says that nothing can listen at the address. Nothing is printed before.
 pub fn serve<R, O, E>(
@@ -197,6 +333,7 @@ pub fn serve<R, O, E>(
     source: &Source,
     address: &str,
     connections: u16,
+    reverse: bool,
     output: &mut O,
     errors: &mut E,
 ) -> Result<u8, Stop>
@@ -204,14 +341,13 @@ where
     R: Files + Net + Clock + AllocGlobal,
     O: Write,
     E: Write,
-    ensures ok { IfOk result (Serves source.now) }
+    ensures ok { IfOk result (Serves reverse source.now) }
     ensures err { IfErr result (IsServeStop source.now) }
     ensures quiet { IfErr result (λ _. O.contents output.new ≡ O.contents output.old) }
     ensures untold { IfErr result (λ _. E.contents errors.new ≡ E.contents errors.old) }
 {
     let settings = settings_in(rt, source)?;
-    let listener = TcpListener::bind(rt, address);
-    let served = serve_at(rt, &settings, listener, connections, output, errors);
+    let served = serve_by(rt, &settings, address, connections, reverse, output, errors);
     let_go(settings);
     served
 }

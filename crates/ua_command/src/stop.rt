@@ -2,7 +2,8 @@
 
 ghost use Rattle.std.specs.Prelude.{◌≡◌, OnOk, IfErr};
 ghost use Rattle.std.specs.Io.KnownBytes.{Appends};
-ghost use Rattle.ua_command.specs.Stop.{status_of, stop_text, stop_of_settings, stop_of_input, stop_of_script};
+ghost use Rattle.ua_command.specs.Reverse.{reverse_number};
+ghost use Rattle.ua_command.specs.Stop.{status_of, stop_text, stop_of_settings, stop_of_input, stop_of_script, stop_of_reverse};
 ghost use Rattle.ua_command.specs.declared.stop.Stop.TheVariants.{NoMemory as OutOfMemory};
 
 use crate::input::InputFault;
@@ -10,6 +11,7 @@ use crate::script::ScriptFault;
 use std::alloc::{AllocError, AllocFailed};
 use std::fmt;
 use std::io::Write;
+use ua_conn::ReverseFault;
 use ua_disco::SettingsFault;
 
 /// Why the command stops.
@@ -21,6 +23,8 @@ pub enum Stop {
     Settings(SettingsFault),
     /// The line of this number is none, the first line having 1.
     Line(u64),
+    /// A server by the settings can't open a connection, for this reason.
+    Reverse(ReverseFault),
     /// A read or a write failed.
     File,
     /// A link failed, or there is none.
@@ -35,11 +39,22 @@ impl Stop {
         ensures { result ≡ status_of self.now }
     {
         match self {
-            Stop::Settings(_) | Stop::Line(_) => 1,
+            Stop::Settings(_) | Stop::Line(_) | Stop::Reverse(_) => 1,
             Stop::Words(_) => 2,
             Stop::File | Stop::Link => 3,
             Stop::NoMemory => 4,
         }
+    }
+}
+
+/// The number of a reason why a server can't open a connection.
+fn number_of(fault: ReverseFault) -> u8
+    ensures { result ≡ reverse_number fault }
+{
+    match fault {
+        ReverseFault::NoEndpoint => 1,
+        ReverseFault::TooLarge => 2,
+        ReverseFault::NoMemory => 3,
     }
 }
 
@@ -51,6 +66,7 @@ impl fmt::Display for Stop {
             Stop::Words(text) => write!(f, "{text}"),
             Stop::Settings(fault) => writeln!(f, "{fault}"),
             Stop::Line(number) => writeln!(f, "line {number}"),
+            Stop::Reverse(fault) => writeln!(f, "reverse {}", number_of(*fault)),
             Stop::File => writeln!(f, "file"),
             Stop::Link => writeln!(f, "link"),
             Stop::NoMemory => writeln!(f, "memory"),
@@ -103,6 +119,17 @@ impl From<ScriptFault> for Stop {
         match fault {
             ScriptFault::BadLine(number) => Stop::Line(number),
             ScriptFault::NoMemory => Stop::NoMemory,
+        }
+    }
+}
+
+impl From<ReverseFault> for Stop {
+    ghost from_gives = { λ fault e. e ≡ stop_of_reverse fault };
+
+    fn from(fault: ReverseFault) -> Stop {
+        match fault {
+            ReverseFault::NoMemory => Stop::NoMemory,
+            fault => Stop::Reverse(fault),
         }
     }
 }

@@ -1,6 +1,7 @@
 pub mod WorkedStories
 pub mod UnmetPremises
 pub mod FaithfulLemmas
+pub mod PlainForms
 pub mod PremiseLemmas
 pub mod OnTheWayLemmas
 pub mod SpokenLemmas
@@ -40,6 +41,8 @@ pub mod HandedLemmas
 pub mod UnrefusedLemmas
 pub mod ClosingLemmas
 pub mod AnsweredLemmas
+pub mod MirrorLemmas
+pub mod ReverseLemmas
 pub mod BetweenCommandLemmas
 pub mod BetweenTickLemmas
 pub mod BetweenServerLemmas

@@ -1,9 +1,12 @@
 pub mod WorkedRows
+pub mod WorkedCalls
 pub mod PlaceLemmas
 pub mod ReadingLemmas
 pub mod KnownLemmas
 pub mod RecordLemmas
 pub mod FreshLemmas
+pub mod GreetingLemmas
+pub mod BehindLemmas
 pub mod RunLemmas
 pub mod GainLemmas
 pub mod StopLemmas

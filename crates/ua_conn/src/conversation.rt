@@ -1,12 +1,13 @@
 //! A whole conversation of a client and a server.
 
 ghost use mathlib.Core.List.{IsPrefix};
-ghost use Rattle.std.specs.Prelude.{◌≡◌, ◌≤◌, ◌<◌, ◌⊎◌, false, length, Some, None, IfOk};
+ghost use Rattle.std.specs.Prelude.{◌≡◌, ◌≤◌, ◌<◌, ◌⊎◌, true, false, length, Some, None, IfOk};
 ghost use Rattle.ua_frame.specs.Hello.{is_long};
 ghost use Rattle.ua_conn.specs.BothEnds.{AnswersInOrder, Delivered, IsConfig, TokensLive, served};
 ghost use Rattle.ua_conn.specs.Conversing.{setup_of, told_of};
 ghost use Rattle.ua_conn.specs.Story.{Setup as Both, World, final};
 ghost use Rattle.ua_conn.specs.client.Commands.{asked_in};
+ghost use Rattle.ua_conn.specs.server.Greeting.{reverse_fault};
 ghost use Rattle.ua_conn.specs.declared.outcome.End.TheVariants.{Closed};
 
 mod ends;
@@ -22,7 +23,8 @@ use ua_value::plumbing::let_go;
 
 /// Runs a client and a server against each other, step by step. Every byte that the one writes comes to the other, in
 /// order, in the pieces that the schedule says; bytes for an end that takes no more are dropped, and a command that the
-/// client refuses changes nothing. OPC 10000-6, 6.7 and 7.1.
+/// client refuses changes nothing. A server that opens the connection has to be able to: its settings name an endpoint,
+/// and its ReverseHello has at most 8192 bytes. OPC 10000-6, 6.7 and 7.1.
 ///
 /// The server is handed a beginning of what was asked, and each answer that the client accepts is the discovery answer to
 /// its own request, or the abort in its place. While each token lives that a delivered MSG or CLO names, nothing is
@@ -35,6 +37,7 @@ pub fn converse(alloc: Global, setup: &Setup, schedule: &[Step]) -> Result<Story
     requires channel { 0 < setup.now.channel_id }
     requires config { IsConfig setup.now.config }
     requires url { is_long setup.now.url.now ≡ false }
+    requires reverse { setup.now.reverse ≡ true → reverse_fault setup.now.settings.now ≡ None }
     requires first_least { 1 ≤ setup.now.first_sequence }
     requires first_most { setup.now.first_sequence ≤ 4294966272 }
     ensures asked { IfOk result (λ story. story.asked.items ≡ (told_of setup.now schedule.now).asked) }

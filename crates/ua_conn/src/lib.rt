@@ -21,7 +21,7 @@ pub use conversation::converse;
 pub use outcome::{End, Outcome};
 pub use schedule::Step;
 pub use server::{
-    Fed, FeedFault, ReverseFault, Server, answer_all, answer_all_reverse, reply_all,
+    Fed, FeedFault, ReverseFault, Server, answer_all, answer_all_reverse, can_open, reply_all,
     reply_all_reverse,
 };
 pub use story::{Setup, Story};

@@ -23,7 +23,7 @@ use crate::server::connection::Connection;
 use crate::server::greeting::greeting_url;
 use crate::server::hearing::hear;
 pub use conversation::{answer_all, answer_all_reverse, reply_all, reply_all_reverse};
-pub use greeting::ReverseFault;
+pub use greeting::{ReverseFault, can_open};
 use std::alloc::{AllocError, Global};
 use std::marker::Model;
 use ua_disco::Settings;

@@ -22,6 +22,6 @@ pub use frame::{Frame, HEADER, frame_at};
 pub use hello::Hello;
 pub use kind::Kind;
 pub use limits::Limits;
-pub use negotiation::{VERSION, acceptable, negotiate};
+pub use negotiation::{VERSION, acceptable, is_long_url, negotiate};
 pub use policy::POLICY_NONE;
 pub use reverse_hello::{ReverseHello, write_reverse_hello};

@@ -2,7 +2,7 @@
 
 ghost use Rattle.std.specs.Prelude.{◌≡◌, None, Some, IfOk, IfErr};
 ghost use Rattle.ua_frame.specs.Rows.{first_row};
-ghost use Rattle.ua_frame.specs.Hello.{is_long as long_url, hello_rows, negotiated, hello_answer, is_size, is_acceptable};
+ghost use Rattle.ua_frame.specs.Hello.{is_long, hello_rows, negotiated, hello_answer, is_size, is_acceptable};
 
 use crate::acknowledge::Ack;
 use crate::hello::Hello;
@@ -19,8 +19,9 @@ const LONGEST_URL: usize = 4095;
 /// Bytes of the smallest buffer that an end may have.
 const SMALLEST_BUFFER: u32 = 8192;
 
-fn is_long(url: &UaString) -> bool
-    ensures { result ≡ long_url url.now }
+/// Whether a url is longer than an end takes: over 4095 bytes. A null one is not. OPC 10000-6, 7.1.2.3 and 7.1.2.6.
+pub fn is_long_url(url: &UaString) -> bool
+    ensures { result ≡ is_long url.now }
 {
     match url.get() {
         None => false,
@@ -44,7 +45,7 @@ pub fn negotiate(hello: &Hello, limits: &Limits) -> Result<Ack, u32>
     ensures agreed { IfOk result (λ ack. ack ≡ negotiated limits.now hello.now) }
     ensures exact { result ≡ hello_answer limits.now hello.now }
 {
-    if is_long(&hello.url) {
+    if is_long_url(&hello.url) {
         return Err(BAD_TCP_ENDPOINT_URL_INVALID);
     }
     if hello.receive < SMALLEST_BUFFER || hello.send < SMALLEST_BUFFER {

@@ -9,7 +9,7 @@ pub const BAD_TCP_MESSAGE_TOO_LARGE: u32 = 0x8080_0000;
 /// An end has not got what the connection needs, as a buffer of the least size.
 pub const BAD_TCP_NOT_ENOUGH_RESOURCES: u32 = 0x8081_0000;
 
-/// The url of a Hello is longer than 4095 bytes.
+/// The url of a Hello, or that of a ReverseHello, is longer than 4095 bytes.
 pub const BAD_TCP_ENDPOINT_URL_INVALID: u32 = 0x8083_0000;
 
 /// The bytes spell nothing of the type that should stand there.

@@ -1,11 +1,11 @@
 //! Questions over links of memory, which say what a server says.
 
-ghost use Rattle.std.specs.Prelude.{◌≡◌, ◌<◌, ◌-◌, ◌^◌};
+ghost use Rattle.std.specs.Prelude.{◌≡◌, ◌<◌, ◌≤◌, ◌-◌, ◌^◌, IfSome, length};
 
 use crate::runs::Page;
 use crate::vectors::{
     ABORT_TOO_LARGE, ACKNOWLEDGE, CLOSE_REQUEST, ENDPOINTS_RESPONSE, FAULT_RESPONSE, FIND_REQUEST,
-    FIND_RESPONSE, OPEN_RESPONSE,
+    FIND_RESPONSE, OPEN_RESPONSE, REVERSE_HELLO,
 };
 use std::alloc::Global;
 use ua_command::{Question, ask_over};
@@ -13,17 +13,17 @@ use ua_link::{Clock, Link, LinkFault, MemoryLink};
 
 const URL: &str = "opc.tcp://localhost:4840";
 
-const PRESS: &str =
+pub(crate) const PRESS: &str =
     "application \"urn:a\" type=0 name=\"Press\"\n  url \"opc.tcp://localhost:4840\"\n";
 
-const ENDPOINT: &str =
+pub(crate) const ENDPOINT: &str =
     "endpoint \"opc.tcp://localhost:4840\" mode=1 policy=\"http://opcfoundation.org/UA/SecurityPolicy#None\" transport=\"http://opcfoundation.org/UA-Profile/Transport/uatcp-uasc-uabinary\" level=0\n";
 
 /// The Acknowledge of a server that takes requests of one byte.
 const SMALL_ACKNOWLEDGE: &[u8] =
     b"ACKF\x1C\0\0\0\0\0\0\0\xFF\xFF\0\0\xFF\xFF\0\0\x01\0\0\0\x40\0\0\0";
 
-const ERROR: &[u8] = b"ERRF\x10\0\0\0\0\0\x7E\x80\xFF\xFF\xFF\xFF";
+pub(crate) const ERROR: &[u8] = b"ERRF\x10\0\0\0\0\0\x7E\x80\xFF\xFF\xFF\xFF";
 
 const ERROR_WITH_REASON: &[u8] = b"ERRF\x12\0\0\0\0\0\x7E\x80\x02\0\0\0no";
 
@@ -37,13 +37,16 @@ impl Clock for StillClock {
     }
 }
 
-/// The exit status of a question over a link, what is printed, which finds so much room, and what is told.
-fn answer_over<L: Link>(
+/// The exit status of a question over a link to a server that is called by this url, or opens the connection, what is
+/// printed, which finds so much room, and what is told.
+pub(crate) fn answer_over<L: Link>(
     alloc: Global,
     link: &mut L,
     question: Question,
+    url: Option<&str>,
     room: usize,
 ) -> (u8, Page, Page)
+    requires url { IfSome url (λ url. length url.now ≤ 4095) }
     requires countable { L.fault_count link.old < 2 ^ 64 - 1 }
 {
     let mut printed = Page::new(room);
@@ -53,7 +56,7 @@ fn answer_over<L: Link>(
         link,
         &mut StillClock,
         question,
-        URL,
+        url,
         &mut printed,
         &mut told,
     );
@@ -70,7 +73,7 @@ fn asks(
     errors: &str,
 ) -> bool {
     let mut link = MemoryLink::new(alloc, pieces, 100);
-    let (came, printed, told) = answer_over(alloc, &mut link, question, 4096);
+    let (came, printed, told) = answer_over(alloc, &mut link, question, Some(URL), 4096);
     came == status && printed.text() == output.as_bytes() && told.text() == errors.as_bytes()
 }
 
@@ -154,7 +157,7 @@ fn a_question_is_not_asked(rt: HostRuntime) {
 fn says_all(alloc: Global) -> bool {
     let pieces = [ACKNOWLEDGE, OPEN_RESPONSE, FIND_RESPONSE];
     let mut link = MemoryLink::new(alloc, &pieces, 100);
-    let (status, _, _) = answer_over(alloc, &mut link, Question::Find, 4096);
+    let (status, _, _) = answer_over(alloc, &mut link, Question::Find, Some(URL), 4096);
     let sent = link.sent();
     status == 0
         && sent.len() == 338
@@ -209,7 +212,7 @@ fn gives_up(alloc: Global, fails: bool, given: usize) -> bool {
         fails,
         failures: 0,
     };
-    let (status, printed, told) = answer_over(alloc, &mut link, Question::Find, 4096);
+    let (status, printed, told) = answer_over(alloc, &mut link, Question::Find, Some(URL), 4096);
     status == 3
         && link.given == given
         && printed.text().is_empty()
@@ -226,7 +229,7 @@ fn an_answer_does_not_come(rt: HostRuntime) {
 fn is_unprinted(alloc: Global, room: usize) -> bool {
     let pieces = [ACKNOWLEDGE, OPEN_RESPONSE, FIND_RESPONSE];
     let mut link = MemoryLink::new(alloc, &pieces, 100);
-    let (status, printed, told) = answer_over(alloc, &mut link, Question::Find, room);
+    let (status, printed, told) = answer_over(alloc, &mut link, Question::Find, Some(URL), room);
     status == 3 && printed.text().len() == room && told.text() == b"file\n".as_slice()
 }
 
@@ -236,11 +239,13 @@ fn a_line_cannot_be_printed(rt: HostRuntime) {
     assert!(rt; is_unprinted(rt.alloc(), 17));
 }
 
-/// The full answer, or nothing printed: `memory`, or `link` where the link found no room for what was sent.
-fn answers_or_not(alloc: Global) -> bool {
-    let pieces = [ACKNOWLEDGE, OPEN_RESPONSE, FIND_RESPONSE];
-    let mut link = MemoryLink::new(alloc, &pieces, 100);
-    let (status, printed, told) = answer_over(alloc, &mut link, Question::Find, 4096);
+/// The full answer of a server that says these pieces, or nothing printed: `memory`, or `link` where the link found no
+/// room for what was sent.
+fn answers_or_not(alloc: Global, url: Option<&str>, pieces: &[&[u8]]) -> bool
+    requires { IfSome url (λ url. length url.now ≤ 4095) }
+{
+    let mut link = MemoryLink::new(alloc, pieces, 100);
+    let (status, printed, told) = answer_over(alloc, &mut link, Question::Find, url, 4096);
     match status {
         0 => printed.text() == PRESS.as_bytes() && told.text().is_empty(),
         3 => printed.text().is_empty() && told.text() == b"link\n".as_slice(),
@@ -251,5 +256,12 @@ fn answers_or_not(alloc: Global) -> bool {
 
 #[test]
 fn a_server_answers_or_no_memory(rt: HostRuntime) {
-    assert!(rt; answers_or_not(rt.alloc()));
+    let pieces = [ACKNOWLEDGE, OPEN_RESPONSE, FIND_RESPONSE];
+    assert!(rt; answers_or_not(rt.alloc(), Some(URL), &pieces));
+}
+
+#[test]
+fn a_server_that_opens_answers_or_no_memory(rt: HostRuntime) {
+    let pieces = [REVERSE_HELLO, ACKNOWLEDGE, OPEN_RESPONSE, FIND_RESPONSE];
+    assert!(rt; answers_or_not(rt.alloc(), None, &pieces));
 }

@@ -21,7 +21,11 @@ mod memory;
 #[cfg(test)]
 mod moments;
 #[cfg(test)]
+mod outgoing;
+#[cfg(test)]
 mod parts;
+#[cfg(test)]
+mod reversing;
 #[cfg(test)]
 mod runs;
 #[cfg(test)]

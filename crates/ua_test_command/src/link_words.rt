@@ -24,7 +24,6 @@ fn refuses_words_of_links(rt: HostRuntime) {
     }
     expect_refusal(&rt, &["serve", "default", "127.0.0.1:0"]);
     expect_refusal(&rt, &["serve", "default", "--connections", "1"]);
-    expect_refusal(&rt, &["ask", "find", "127.0.0.1:4840"]);
     expect_refusal(&rt, &["ask", "servers", "127.0.0.1:4840", "u"]);
     expect_reason(
         &rt,
@@ -49,7 +48,7 @@ fn serves_nothing_where_it_cannot(rt: HostRuntime) {
 }
 
 /// An address of this host at which nobody listens any more.
-fn left_address(rt: &HostRuntime) -> Option<SocketAddr> {
+pub(crate) fn left_address(rt: &HostRuntime) -> Option<SocketAddr> {
     let Ok(listener) = TcpListener::bind(rt, "127.0.0.1:0") else {
         return None;
     };

@@ -1,6 +1,7 @@
 //! Runs whose growths may be refused.
 
 use crate::answering::{ACKNOWLEDGED, HELLO};
+use crate::reversing::GREETED_AND_ACKNOWLEDGED;
 use crate::runs::{Page, are_written};
 use std::net::Net;
 use std::rt::{Clock, Files};
@@ -27,6 +28,12 @@ fn ends_so_or_no_memory<R: Files + Net + Clock + AllocGlobal>(
 #[test]
 fn answers_or_no_memory(rt: HostRuntime) {
     assert!(rt; ends_so_or_no_memory(&rt, &["answer", "default"], HELLO, 0, ACKNOWLEDGED, ""));
+}
+
+#[test]
+fn answers_in_reverse_or_no_memory(rt: HostRuntime) {
+    let words = ["answer", "default", "--reverse"];
+    assert!(rt; ends_so_or_no_memory(&rt, &words, HELLO, 0, GREETED_AND_ACKNOWLEDGED, ""));
 }
 
 #[test]

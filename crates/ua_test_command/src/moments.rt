@@ -46,7 +46,7 @@ fn says_its_moments(alloc: Global) -> bool {
         &mut link,
         &mut clock,
         Question::Find,
-        "opc.tcp://localhost:4840",
+        Some("opc.tcp://localhost:4840"),
         &mut printed,
         &mut told,
     );

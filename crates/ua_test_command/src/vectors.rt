@@ -4,6 +4,11 @@
 pub(crate) const CALLS: &[u8] =
     b"HELF8\0\0\0\0\0\0\0\xFF\xFF\0\0\xFF\xFF\0\0\0\0\0\0\0\0\0\0\x18\0\0\0opc.tcp://localhost:4840OPNF\x84\0\0\0\0\0\0\0/\0\0\0http://opcfoundation.org/UA/SecurityPolicy#None\xFF\xFF\xFF\xFF\xFF\xFF\xFF\xFF\x01\0\0\0\x01\0\0\0\x01\0\xBE\x01\0\0\0\0\0\0\0\0\0\0\x01\0\0\0\0\0\0\0\xFF\xFF\xFF\xFF\0\0\0\0\0\0\0\0\0\0\0\0\0\0\0\x01\0\0\0\xFF\xFF\xFF\xFF\0\0\0\0MSGF]\0\0\0\x01\0\0\0\x01\0\0\0\x02\0\0\0\x02\0\0\0\x01\0\xA6\x01\0\0\0\0\0\0\0\0\0\0\x02\0\0\0\0\0\0\0\xFF\xFF\xFF\xFF\0\0\0\0\0\0\0\x18\0\0\0opc.tcp://localhost:4840\xFF\xFF\xFF\xFF\xFF\xFF\xFF\xFFCLOF9\0\0\0\x01\0\0\0\x01\0\0\0\x03\0\0\0\x03\0\0\0\x01\0\xC4\x01\0\0\0\0\0\0\0\0\0\0\x03\0\0\0\0\0\0\0\xFF\xFF\xFF\xFF\0\0\0\0\0\0\0";
 
+/// What a server says first by the settings `default` that opened the connection: the URI of its application, and the
+/// url of its endpoint.
+pub(crate) const REVERSE_HELLO: &[u8] =
+    b"RHEF\x2D\0\0\0\x05\0\0\0urn:a\x18\0\0\0opc.tcp://localhost:4840";
+
 /// The Acknowledge of a server that takes and sends 65535 bytes, messages of 1048576 bytes and 64 chunks.
 pub(crate) const ACKNOWLEDGE: &[u8] =
     b"ACKF\x1C\0\0\0\0\0\0\0\xFF\xFF\0\0\xFF\xFF\0\0\0\0\x10\0\x40\0\0\0";
@@ -15,6 +20,10 @@ pub(crate) const OPEN_RESPONSE: &[u8] =
 /// A MSG with a FindServers request of handle 2, under request id 2 and with number 2.
 pub(crate) const FIND_REQUEST: &[u8] =
     b"MSGF\x5D\0\0\0\x01\0\0\0\x01\0\0\0\x02\0\0\0\x02\0\0\0\x01\0\xA6\x01\0\0\0\0\0\0\0\0\0\0\x02\0\0\0\0\0\0\0\xFF\xFF\xFF\xFF\0\0\0\0\0\0\0\x18\0\0\0opc.tcp://localhost:4840\xFF\xFF\xFF\xFF\xFF\xFF\xFF\xFF";
+
+/// The same without a url.
+pub(crate) const FIND_REQUEST_WITHOUT_URL: &[u8] =
+    b"MSGF\x45\0\0\0\x01\0\0\0\x01\0\0\0\x02\0\0\0\x02\0\0\0\x01\0\xA6\x01\0\0\0\0\0\0\0\0\0\0\x02\0\0\0\0\0\0\0\xFF\xFF\xFF\xFF\0\0\0\0\0\0\0\xFF\xFF\xFF\xFF\xFF\xFF\xFF\xFF\xFF\xFF\xFF\xFF";
 
 /// Its answer by the settings `default`: one application.
 pub(crate) const FIND_RESPONSE: &[u8] =

@@ -1,8 +1,11 @@
 //! What `ask` says from its Hello to the close, byte for byte.
 
+ghost use Rattle.std.specs.Prelude.{◌≤◌, IfSome, length};
+
 use crate::runs::Page;
 use crate::vectors::{
-    ACKNOWLEDGE, CLOSE_REQUEST, ENDPOINTS_RESPONSE, FIND_REQUEST, FIND_RESPONSE, OPEN_RESPONSE,
+    ACKNOWLEDGE, CLOSE_REQUEST, ENDPOINTS_RESPONSE, FIND_REQUEST, FIND_REQUEST_WITHOUT_URL,
+    FIND_RESPONSE, OPEN_RESPONSE, REVERSE_HELLO,
 };
 use std::alloc::Global;
 use ua_command::{Question, ask_over};
@@ -35,36 +38,46 @@ impl Clock for StoppedClock {
     }
 }
 
-/// What stands behind a Hello, an open request, a request of this type and a close request, each but the first of this moment.
-fn behind_calls(sent: &[u8], moment: i64, of_type: u8) -> Option<&[u8]> {
+/// What stands behind a Hello, an open request, this request with this type and a close request, each but the first of
+/// this moment.
+fn behind_calls<'a>(sent: &'a [u8], moment: i64, of_type: u8, request: &[u8]) -> Option<&'a [u8]> {
     let moment = moment.to_le_bytes();
     sent.strip_prefix(HELLO)?
         .strip_prefix(OPENING)?
         .strip_prefix(moment.as_slice())?
         .strip_prefix(LASTING_AN_HOUR)?
-        .strip_prefix(&FIND_REQUEST[..26])?
+        .strip_prefix(request.get(..26)?)?
         .strip_prefix([of_type].as_slice())?
-        .strip_prefix(&FIND_REQUEST[27..30])?
+        .strip_prefix(request.get(27..30)?)?
         .strip_prefix(moment.as_slice())?
-        .strip_prefix(&FIND_REQUEST[38..])?
+        .strip_prefix(request.get(38..)?)?
         .strip_prefix(&CLOSE_REQUEST[..30])?
         .strip_prefix(moment.as_slice())?
         .strip_prefix(&CLOSE_REQUEST[38..])
 }
 
 /// Whether these are such calls, and nothing else.
-fn are_calls(sent: &[u8], moment: i64, of_type: u8) -> bool {
-    match behind_calls(sent, moment, of_type) {
+fn are_calls(sent: &[u8], moment: i64, of_type: u8, request: &[u8]) -> bool {
+    match behind_calls(sent, moment, of_type, request) {
         Some(rest) => rest.is_empty(),
         None => false,
     }
 }
 
-/// Whether the question by a clock that stands at this moment is asked by a request of this type, of a server that says
-/// this to it.
-fn says_all(alloc: Global, question: Question, moment: i64, of_type: u8, said: &[u8]) -> bool {
-    let pieces = [ACKNOWLEDGE, OPEN_RESPONSE, said];
-    let mut link = MemoryLink::new(alloc, &pieces, 100);
+/// Whether the question by a clock that stands at this moment is asked by this request with this type, of a server that
+/// says these pieces and is called by this url, or opens the connection.
+fn says_so(
+    alloc: Global,
+    question: Question,
+    moment: i64,
+    of_type: u8,
+    url: Option<&str>,
+    pieces: &[&[u8]],
+    request: &[u8],
+) -> bool
+    requires { IfSome url (λ url. length url.now ≤ 4095) }
+{
+    let mut link = MemoryLink::new(alloc, pieces, 100);
     let mut clock = StoppedClock { moment };
     let (mut printed, mut told) = (Page::new(4096), Page::new(4096));
     let status = ask_over(
@@ -72,11 +85,35 @@ fn says_all(alloc: Global, question: Question, moment: i64, of_type: u8, said: &
         &mut link,
         &mut clock,
         question,
-        URL,
+        url,
         &mut printed,
         &mut told,
     );
-    status == 0 && are_calls(link.sent(), moment, of_type)
+    status == 0 && are_calls(link.sent(), moment, of_type, request)
+}
+
+/// Whether it is asked so of a server that answers this, once it is called by the url and once it opens the connection
+/// itself: the Hello is the same then, and the request names no url.
+fn says_all(alloc: Global, question: Question, moment: i64, of_type: u8, said: &[u8]) -> bool {
+    let called = [ACKNOWLEDGE, OPEN_RESPONSE, said];
+    let opens = [REVERSE_HELLO, ACKNOWLEDGE, OPEN_RESPONSE, said];
+    says_so(
+        alloc,
+        question,
+        moment,
+        of_type,
+        Some(URL),
+        &called,
+        FIND_REQUEST,
+    ) && says_so(
+        alloc,
+        question,
+        moment,
+        of_type,
+        None,
+        &opens,
+        FIND_REQUEST_WITHOUT_URL,
+    )
 }
 
 /// A moment of November 2025, of eight bytes that differ.

@@ -22,7 +22,7 @@ pub fn expect_refusal<R: Files + Net + Clock + AllocGlobal + Abort>(rt: &R, word
 }
 
 /// Whether some bytes have this text in them.
-fn has(bytes: &[u8], part: &str) -> bool {
+pub(crate) fn has(bytes: &[u8], part: &str) -> bool {
     for at in 0..bytes.len() {
         if bytes[at..].starts_with(part.as_bytes()) {
             return true;
@@ -107,7 +107,7 @@ fn shows_help_and_the_version(rt: HostRuntime) {
     expect_text(
         &rt,
         &["answer", "--help"],
-        "Usage: uadisc answer <SETTINGS>",
+        "Usage: uadisc answer [OPTIONS] <SETTINGS>",
     );
     expect_text(&rt, &["help", "value"], "Usage: uadisc value <TYPE> <HEX>");
     expect_text(&rt, &["value", "-h"], "NodeId");
@@ -115,12 +115,15 @@ fn shows_help_and_the_version(rt: HostRuntime) {
     expect_text(
         &rt,
         &["serve", "--help"],
-        "Usage: uadisc serve --connections <N> <SETTINGS> <ADDR>",
+        "Usage: uadisc serve [OPTIONS] --connections <N> <SETTINGS> <ADDR>",
     );
     expect_text(
         &rt,
         &["help", "ask"],
-        "Usage: uadisc ask <WHAT> <ADDR> <URL>",
+        "Usage: uadisc ask [OPTIONS] <WHAT> <ADDR> [URL]",
     );
     expect_text(&rt, &["ask", "-h"], "find, endpoints");
+    for command in ["answer", "serve", "ask"] {
+        expect_text(&rt, &[command, "--help"], "      --reverse  ");
+    }
 }

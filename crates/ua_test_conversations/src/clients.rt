@@ -22,11 +22,11 @@ pub(crate) const CONFIG: ClientConfig = ClientConfig {
 };
 
 /// A Hello with these limits and no url.
-const GREETING: &[u8] =
+pub(crate) const GREETING: &[u8] =
     b"HELF\x20\0\0\0\0\0\0\0\xFF\xFF\0\0\xFF\xFF\0\0\0\0\x10\0\x40\0\0\0\xFF\xFF\xFF\xFF";
 
 /// Whether the client has just this to send, which is sent then.
-fn says(client: &mut Client, bytes: &[u8]) -> bool {
+pub(crate) fn says(client: &mut Client, bytes: &[u8]) -> bool {
     let same = client.output() == bytes;
     let len = client.output().len();
     client.sent(len);
@@ -280,6 +280,7 @@ fn story(alloc: Global, settings: &Settings, request: Request) -> Option<Story> 
         config: CONFIG,
         url: &url,
         first_sequence: 1,
+        reverse: false,
         start: 0,
     };
     converse(alloc, &setup, &schedule).ok()

@@ -59,7 +59,7 @@ pub(crate) fn fails(client: &mut Client, now: i64, piece: &[u8], want: Fault) ->
 }
 
 /// Whether each byte but the last brings no fault, and the last makes the client fail so.
-fn fails_at_the_last_byte(client: &mut Client, stream: &[u8], want: Fault) -> bool {
+pub(crate) fn fails_at_the_last_byte(client: &mut Client, stream: &[u8], want: Fault) -> bool {
     let Some((last, front)) = stream.split_last() else {
         return false;
     };

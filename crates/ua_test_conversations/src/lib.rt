@@ -61,6 +61,12 @@ mod refusals;
 #[cfg(test)]
 mod reverse;
 #[cfg(test)]
+mod reverse_clients;
+#[cfg(test)]
+mod reverse_refusals;
+#[cfg(test)]
+mod reverse_stories;
+#[cfg(test)]
 mod rounds;
 #[cfg(test)]
 mod rows;

@@ -47,6 +47,8 @@ pub(crate) enum Piece {
     HelloTo(u32),
     /// So many middle chunks of request id 2 without a body, from number 2 on.
     EmptyParts(u32),
+    /// So many letters `x`.
+    Letters(u32),
 }
 
 pub(crate) fn put_changed(
@@ -62,15 +64,19 @@ pub(crate) fn put_changed(
     out.extend_from_slice(bytes.as_slice())
 }
 
+fn put_letters(count: u32, out: &mut Vec<u8>) -> Result<(), AllocError> {
+    for _ in 0..count {
+        out.push(b'x')?;
+    }
+    Ok(())
+}
+
 fn put_hello_to(len: u32, out: &mut Vec<u8>) -> Result<(), AllocError> {
     out.extend_from_slice(b"HELF")?;
     out.extend_from_slice(&len.wrapping_add(32).to_le_bytes())?;
     out.extend_from_slice(&HELLO[8..28])?;
     out.extend_from_slice(&len.to_le_bytes())?;
-    for _ in 0..len {
-        out.push(b'x')?;
-    }
-    Ok(())
+    put_letters(len, out)
 }
 
 fn put_empty_parts(count: u32, out: &mut Vec<u8>) -> Result<(), AllocError> {
@@ -88,6 +94,7 @@ fn put_piece(alloc: Global, piece: Piece, out: &mut Vec<u8>) -> Result<(), Alloc
         Piece::Changed(frame, changes) => put_changed(alloc, frame, changes, out),
         Piece::HelloTo(len) => put_hello_to(len, out),
         Piece::EmptyParts(count) => put_empty_parts(count, out),
+        Piece::Letters(count) => put_letters(count, out),
     }
 }
 

@@ -79,7 +79,7 @@ pub(crate) fn rounds_of(
     kept(steps, all)
 }
 
-fn steps_of(alloc: Global, acts: &[Act]) -> Option<Vec<Step>> {
+pub(crate) fn steps_of(alloc: Global, acts: &[Act]) -> Option<Vec<Step>> {
     let mut steps = Vec::new(alloc);
     let all = put_steps(alloc, acts, &mut steps);
     kept(steps, all)
@@ -103,6 +103,7 @@ pub(crate) fn story_of(
         config,
         url: &url,
         first_sequence: 1,
+        reverse: false,
         start: 0,
     };
     converse(alloc, &setup, steps).ok()
@@ -141,7 +142,7 @@ pub(crate) fn are_all_answered(story: &Story, count: usize) -> bool {
         && story.client_fault.is_none()
 }
 
-fn is_told(story: &Story, told: Told) -> bool {
+pub(crate) fn is_told(story: &Story, told: Told) -> bool {
     story.up.as_slice() == told.up
         && story.down.as_slice() == told.down
         && are_answers(story.answers.as_slice(), told.answers)

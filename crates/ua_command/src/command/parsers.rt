@@ -3,7 +3,7 @@
 ghost use Rattle.std.specs.Prelude.{◌≡◌, IfOk, Ok, false};
 ghost use Rattle.clap.specs.Words.{App, Rule, app_of, new_app, rule_of, with_rule, with_subcommand};
 ghost use Rattle.clap.specs.declared.builder.command.Command.TheViews.{out-Command};
-ghost use Rattle.ua_command.specs.Command.{word_rule, named_rule, type_rule, count_rule, answer_app, value_app, show_app, serve_app, ask_app, plain, uadisc_with};
+ghost use Rattle.ua_command.specs.Command.{optional_rule, word_rule, named_rule, type_rule, count_rule, reverse_rule, answer_app, value_app, show_app, serve_app, ask_app, plain, uadisc_with};
 
 use clap::builder::ValueParser;
 use clap::{Arg, ArgAction, Command as Parser};
@@ -12,16 +12,23 @@ use std::alloc::{AllocError, Global};
 /// The version of the program, and the logic by which it is proved, as `rt version` names it.
 const VERSION: &str = "0.1.0 (logic dac8208d650f15bf)";
 
-/// A word that has to be there, with its name and its line in the help.
+/// A word that may be there, with its name and its line in the help.
+fn optional<'a>(alloc: Global, id: &'a str, name: &'a str, help: &'a str) -> Arg<'a>
+    ensures local { result.global ≡ false }
+    ensures rule { rule_of result ≡ optional_rule id.entry.now }
+{
+    Arg::new(alloc, id)
+        .action(ArgAction::Set)
+        .value_name(name)
+        .help(help)
+}
+
+/// One that has to be there.
 fn required<'a>(alloc: Global, id: &'a str, name: &'a str, help: &'a str) -> Arg<'a>
     ensures local { result.global ≡ false }
     ensures rule { rule_of result ≡ word_rule id.entry.now }
 {
-    Arg::new(alloc, id)
-        .required(true)
-        .action(ArgAction::Set)
-        .value_name(name)
-        .help(help)
+    optional(alloc, id, name, help).required(true)
 }
 
 /// A word that has to be one of these names.
@@ -65,6 +72,17 @@ fn count_word<'a>(alloc: Global) -> Arg<'a>
     )
     .long("connections")
     .value_parser(ValueParser::Unsigned(1, 65535))
+}
+
+/// The flag by which the server opens the connection, with its line in the help.
+fn reverse_flag<'a>(alloc: Global, help: &'a str) -> Arg<'a>
+    ensures local { result.global ≡ false }
+    ensures rule { rule_of result ≡ reverse_rule }
+{
+    Arg::new(alloc, "reverse")
+        .long("reverse")
+        .action(ArgAction::SetTrue)
+        .help(help)
 }
 
 /// A parser of this name without words, with its line in the help.
@@ -117,17 +135,27 @@ fn answer_parser<'a>(alloc: Global) -> Result<Parser<'a>, AllocError>
     ensures app { IfOk result (λ c. app_of c ≡ answer_app) }
     ensures local { IfOk result (λ c. (out-Command c).has_globals ≡ false) }
 {
-    command(
+    let answer = command(
         alloc,
         "answer",
         "Answers what a client sends, in hex on standard input, as a server does",
+    );
+    let with_settings = with_word(
+        Ok(answer),
+        required(
+            alloc,
+            "settings",
+            "SETTINGS",
+            "A file of settings in TOML, or `default` for the built-in ones",
+        ),
+    );
+    with_word(
+        with_settings,
+        reverse_flag(
+            alloc,
+            "Answers as a server that opened the connection: its ReverseHello comes first",
+        ),
     )
-    .arg(required(
-        alloc,
-        "settings",
-        "SETTINGS",
-        "A file of settings in TOML, or `default` for the built-in ones",
-    ))
 }
 
 fn value_parser<'a>(alloc: Global, names: &'a [&'a str]) -> Result<Parser<'a>, AllocError>
@@ -190,7 +218,14 @@ fn serve_parser<'a>(alloc: Global) -> Result<Parser<'a>, AllocError>
             "An address and a port to listen at, as `127.0.0.1:4840`; port 0 takes a free one",
         ),
     );
-    with_word(with_address, count_word(alloc))
+    let with_count = with_word(with_address, count_word(alloc));
+    with_word(
+        with_count,
+        reverse_flag(
+            alloc,
+            "Connects to ADDR, N times in turn, in place of listening there",
+        ),
+    )
 }
 
 fn ask_parser<'a>(alloc: Global, names: &'a [&'a str]) -> Result<Parser<'a>, AllocError>
@@ -215,13 +250,20 @@ fn ask_parser<'a>(alloc: Global, names: &'a [&'a str]) -> Result<Parser<'a>, All
             "The address and port of the server, as `127.0.0.1:4840`",
         ),
     );
-    with_word(
+    let with_url = with_word(
         with_address,
-        required(
+        optional(
             alloc,
             "url",
             "URL",
-            "The url by which the server is called, of at most 4095 bytes",
+            "The url by which the server is called, of at most 4095 bytes; left out with --reverse",
+        ),
+    );
+    with_word(
+        with_url,
+        reverse_flag(
+            alloc,
+            "Listens at ADDR for a server that connects, and calls it by the url that it says",
         ),
     )
 }

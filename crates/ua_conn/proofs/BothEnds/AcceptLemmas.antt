@@ -18,7 +18,6 @@ use Rattle.ua_conn.specs.client.Reading.{ClientReading, client_reading_of}
 use Rattle.ua_conn.specs.client.Sending.{Opening, Asking, Closing, greets, opens, act_says, commands_say, sent_by}
 use Rattle.ua_conn.specs.client.Asking.{ask_fault}
 use Rattle.ua_conn.specs.Story.{Setup, World}
-use Rattle.ua_conn.specs.BothEnds.{IsSetup}
 use Rattle.ua_conn.proofs.ServerEnd.ReadyLemmas.{newest_append}
 use Rattle.ua_conn.proofs.ClientEnd.AcceptedLemmas.{accepted_token, over_not, ask_fits}
 use Rattle.ua_conn.proofs.ClientEnd.CountLemmas.{tokens_left, ids_left}
@@ -35,6 +34,7 @@ use Rattle.ua_conn.proofs.BothEnds.ReadyLemmas.{stands_come, newest_came, channe
 use Rattle.ua_conn.proofs.BothEnds.ScheduleLemmas.{tokens_of}
 use Rattle.ua_conn.proofs.BothEnds.StoryBaseLemmas.{Base, here_of, sends, up_are, standing_of}
 use Rattle.ua_conn.proofs.BothEnds.WayLemmas.{way, server_stands}
+use Rattle.ua_conn.proofs.BothEnds.PlainForms.{IsPlain, plain_down}
 
 -- how many tokens came to the client
 abbrev pub come : Setup → World → ℕ
@@ -50,7 +50,7 @@ pub record Ready (s : Setup) (w : World) : Type 0 where
   pub token : newest_id (client_known (here_of s w)).tokens ≡ come s w
   pub ack : (client_known (here_of s w)).ack ≡ Some (agreed s.site (hello_by s.asker)).ack
 
-pub ready : (s : Setup) → IsSetup s → (w : World) → Base s w → (act : Act) → ask_fault s.asker w.cmds w.down act ≡ None → Core s w.cmds (come s w) (sends s w) w.up → Ready s w
+pub ready : (s : Setup) → IsPlain s → (w : World) → Base s w → (act : Act) → ask_fault s.asker w.cmds w.down act ≡ None → Core s w.cmds (come s w) (sends s w) w.up → Ready s w
 ready s h w i act e core =
     let a = s.asker in
     let st = standing_of s h w i in
@@ -94,7 +94,7 @@ IsAct (Ask request part) = request_message.IsValue request
 IsAct Renew = Unit {0}
 IsAct Close = Unit {0}
 
-adds : (s : Setup) → IsSetup s → (w : World) → Base s w → (act : Act) → IsAct act → ask_fault s.asker w.cmds w.down act ≡ None → Ready s w
+adds : (s : Setup) → IsPlain s → (w : World) → Base s w → (act : Act) → IsAct act → ask_fault s.asker w.cmds w.down act ≡ None → Ready s w
     → Adds s w.cmds (given w act) (come s w) (act_says s.asker (next_id w.cmds) (moment_of w.clock) (client_known (come_by (length w.down) (here_of s w))) act)
 adds s h w i act is e r = by act is e
   where
@@ -138,7 +138,7 @@ adds s h w i act is e r = by act is e
         (close_adds s w.cmds now (length w.down) (come s w) h r.some r.low r.high r.short (omega (arith, left)) i.timely.clock)
 
 -- One more command, where the server refused nothing.
-pub core_told : (s : Setup) → IsSetup s → (w : World) → Base s w → (act : Act) → IsAct act → ask_fault s.asker w.cmds w.down act ≡ None → first_fault s.site w.up ≡ None
+pub core_told : (s : Setup) → IsPlain s → (w : World) → Base s w → (act : Act) → IsAct act → ask_fault s.asker w.cmds w.down act ≡ None → first_fault s.site w.up ≡ None
     → Core s w.cmds (come s w) (sends s w) w.up
     → (let cmds = given w act ∷ w.cmds in let past = (client_reading_of s.asker cmds w.down).past in Core s cmds (length (granted_in past)) (sent_by s.asker cmds past) w.up)
 core_told s h w i act is e calm core =
@@ -151,5 +151,5 @@ core_told s h w i act is e calm core =
     let same : client_reading_of a cmds w.down ≡ client_reading_of a w.cmds w.down = reads_same a c w.cmds w.down (frames_within w.down) in
     let all : sends s w ++ ms ≡ sent_by a cmds past =
     append_assoc (greets a past) (opens a past ++ commands_say a w.cmds past) ms ∙ ap (λ l. greets a past ++ l) (append_assoc (opens a past) (commands_say a w.cmds past) ms) in
-    let step = core_step s w.cmds c (come s w) (sends s w) ms w.up (up_are s h w i) (λ ps rs x. reaches s (sends s w) w.up w.down ps rs calm i.flow.down x) (adds s h w i act is e r) core in
+    let step = core_step s w.cmds c (come s w) (sends s w) ms w.up (up_are s h w i) (λ ps rs x. reaches s (sends s w) w.up w.down ps rs calm (plain_down s h w (plain w.down) i.flow.down) x) (adds s h w i act is e r) core in
     subst (λ (R : ClientReading). Core s cmds (length (granted_in R.past)) (sent_by a cmds R.past) w.up) (sym same) (subst (λ xs. Core s cmds (come s w) xs w.up) all step)

@@ -1,7 +1,7 @@
 -- While the tokens live that are used, what is accepted but for their age is accepted, and a stream of it is not refused.
 use mathlib.Core.List.{IsPrefix}
 use Rattle.std.proofs.Common.{◌≡◌, ℕ, Bool, true, false, cond, List, [], ◌∷◌, ◌++◌, map, Option, Some, None, is_some, refl, sym, ap, subst, ◌∙◌}
-use Rattle.std.specs.Prelude.{◌==◌, ◌&&◌, option_map}
+use Rattle.std.specs.Prelude.{◌==◌, ◌&&◌, not, option_map}
 use Rattle.std.specs.List.{find}
 use Rattle.std.proofs.lemmas.List.{append_cancel_left, map-append}
 use Rattle.ua_frame.specs.Streams.{TimedByte, plain, rest_of}
@@ -21,7 +21,7 @@ use Rattle.ua_conn.specs.server.Replies.{Reading, reading, ended, fault_of, firs
 use Rattle.ua_conn.specs.server.Held.{newest_first}
 use Rattle.ua_conn.specs.client.Asker.{Asker}
 use Rattle.ua_conn.specs.client.Commands.{Commands}
-use Rattle.ua_conn.specs.client.Past.{ClientKnown, client_known, granted_in}
+use Rattle.ua_conn.specs.client.Past.{ClientKnown, client_known, granted_in, reverse_frame_in}
 use Rattle.ua_conn.specs.client.Pending.{bytes_in, due_at, wanted_at}
 use Rattle.ua_conn.specs.client.Faults.{greatest_answer, client_rows, client_fault_by, client_fault_in_rest, token_usable}
 use Rattle.ua_conn.specs.client.Reading.{ClientReading, client_fault_at, client_reading, client_reading_of}
@@ -84,7 +84,7 @@ sound_alive site past f h live = by (has_token (kind_of f.bytes)) refl
         (λ i. is_known (known_tokens site past i) id && lives (named (known_tokens site past i) id) f.moment) ∙ usable_alive (tokens_in past) id f.moment (live e) ∙ (λ i. is_known (sym (known_tokens site past) i) id) in
         fault_is site k f ∙ ap (fault_by site k f) same ∙ h
 
-client_untokened_rows : (a : Asker) (k : ClientKnown) (due : Option ℕ) (wanted : Option Request) (b c : Bool) (f : Frame) (flag : ℕ) (kind : Option Kind) → has_token kind ≡ false → client_rows a k due wanted b f flag kind ≡ client_rows a k due wanted c f flag kind
+client_untokened_rows : (a : Asker) (k : ClientKnown) (due : Option ℕ) (wanted : Option Request) (b c : Bool) (f : Frame) (flag : ℕ) (kind : Option Kind) → has_token kind ≡ false → client_rows a false k due wanted b f flag kind ≡ client_rows a false k due wanted c f flag kind
 client_untokened_rows a k due wanted b c f flag None h = refl
 client_untokened_rows a k due wanted b c f flag (Some kinds.Hello) h = refl
 client_untokened_rows a k due wanted b c f flag (Some kinds.Acknowledge) h = refl
@@ -94,13 +94,13 @@ client_untokened_rows a k due wanted b c f flag (Some kinds.Open) h = refl
 client_untokened_rows a k due wanted b c f flag (Some kinds.Message) h = absurd (cc h)
 client_untokened_rows a k due wanted b c f flag (Some kinds.Close) h = absurd (cc h)
 
-client_untokened : (a : Asker) (k : ClientKnown) (due : Option ℕ) (wanted : Option Request) (b c : Bool) (f : Frame) → has_token (kind_of f.bytes) ≡ false → client_fault_by a k due wanted b f ≡ client_fault_by a k due wanted c f
+client_untokened : (a : Asker) (k : ClientKnown) (due : Option ℕ) (wanted : Option Request) (b c : Bool) (f : Frame) → has_token (kind_of f.bytes) ≡ false → client_fault_by a false k due wanted b f ≡ client_fault_by a false k due wanted c f
 unfolding client_fault_by
 client_untokened a k due wanted b c f h =
     ap (λ rows. or_else (option_map Broken (header_fault (greatest_answer k.ack) f.bytes)) (first_row rows)) (client_untokened_rows a k due wanted b c f (flag_of f.bytes) (kind_of f.bytes) h)
 
-pub accepts_alive : (a : Asker) (cmds : Commands) (past : Past) (f : Frame) → Accepts a cmds past f → IsLive (granted_in past) f → Passes a cmds past f
-accepts_alive a cmds past f h live = by (has_token (kind_of f.bytes)) refl
+pub accepts_alive : (a : Asker) (cmds : Commands) (past : Past) (f : Frame) → a.reverse ≡ false → Accepts a cmds past f → IsLive (granted_in past) f → Passes a cmds past f
+accepts_alive a cmds past f plain h live = ap (λ b. client_fault_by a (b && not (is_some (reverse_frame_in past))) k due wanted (token_usable k f) f) plain ∙ by (has_token (kind_of f.bytes)) refl
   where
     k : ClientKnown
     k = client_known past
@@ -114,12 +114,12 @@ accepts_alive a cmds past f h live = by (has_token (kind_of f.bytes)) refl
     wanted : Option Request
     wanted = wanted_at cmds past (bytes_in (f ∷ past)) (carried f).request_id
 
-    by : (b : Bool) → has_token (kind_of f.bytes) ≡ b → Passes a cmds past f
+    by : (b : Bool) → has_token (kind_of f.bytes) ≡ b → client_fault_by a false k due wanted (token_usable k f) f ≡ None
     by false e = client_untokened a k due wanted (token_usable k f) (is_known k.tokens id) f e ∙ h
     by true e =
         let same : token_usable k f ≡ is_known k.tokens id =
         (λ i. is_known (client_tokens past i) id && lives (named (client_tokens past i) id) f.moment) ∙ usable_alive (granted_in past) id f.moment (live e) ∙ (λ i. is_known (sym (client_tokens past) i) id) in
-        ap (λ b. client_fault_by a k due wanted b f) same ∙ h
+        ap (λ b. client_fault_by a false k due wanted b f) same ∙ h
 
 -- ---- the header of a frame in which no row holds
 
@@ -185,13 +185,13 @@ client_reading_well a cmds past (f ∷ fs) rest h e = by (client_fault_at a cmds
     by None e k = k
 
 -- Nor does the client, of frames that it accepts; all of them stand.
-pub client_well : (a : Asker) (cmds : Commands) (v : List TimedByte) (rs : List Frame) (front back all : List (List ℕ)) → IsPrefix (frames_of v) rs → Are (frames_of v) front → front ++ back ≡ all → Are rs all → IsPart (plain (rest_of v)) back
+pub client_well : (a : Asker) (cmds : Commands) (v : List TimedByte) (rs : List Frame) (front back all : List (List ℕ)) → a.reverse ≡ false → IsPrefix (frames_of v) rs → Are (frames_of v) front → front ++ back ≡ all → Are rs all → IsPart (plain (rest_of v)) back
     → AllAfter (Accepts a cmds) [] rs → AllAfter (λ past f. IsLive (granted_in past) f) [] (frames_of v) → client_reading_of a cmds v ≡ record { past = past_of (frames_of v); fault = None }
 unfolding client_fault_in_rest
-client_well a cmds v rs front back all p e w is part taken live =
+client_well a cmds v rs front back all own p e w is part taken live =
     let fs = frames_of v in
     let both : AllAfter (Accepts a cmds) [] (fs ++ p.0) = subst (λ l. AllAfter (Accepts a cmds) [] l) (sym p.1) taken in
-    let passes = all_both (Accepts a cmds) (λ past f. IsLive (granted_in past) f) (Passes a cmds) [] fs (λ past f h k. accepts_alive a cmds past f h k) (all_front (Accepts a cmds) [] fs p.0 both) live in
+    let passes = all_both (Accepts a cmds) (λ past f. IsLive (granted_in past) f) (Passes a cmds) [] fs (λ past f h k. accepts_alive a cmds past f own h k) (all_front (Accepts a cmds) [] fs p.0 both) live in
     let limit = greatest_answer (client_known (past_of fs)).ack in
     let next : NextPasses limit back = subst (NextPasses limit) (rest_bytes v rs front back all p e w is) (next_accepts a cmds (past_of fs) p.0 (all_back (Accepts a cmds) [] fs p.0 both)) in
     client_reading_well a cmds [] fs (plain (rest_of v)) passes (ap (option_map Broken) (rest_passes limit (plain (rest_of v)) back part next))

@@ -21,7 +21,7 @@ use Rattle.ua_conn.specs.client.Asker.{hello_by}
 use Rattle.ua_conn.specs.client.Commands.{Commands}
 use Rattle.ua_conn.specs.client.Pending.{bytes_in}
 use Rattle.ua_conn.specs.client.Faults.{fits}
-use Rattle.ua_conn.specs.BothEnds.{IsSetup, expected}
+use Rattle.ua_conn.specs.BothEnds.{expected}
 use Rattle.ua_conn.specs.Story.{Setup}
 use Rattle.ua_conn.specs.declared.client.answer.AnswerResult.{AnswerResult}
 use Rattle.ua_conn.specs.declared.client.answer.AnswerResult.TheVariants.{Response as Responds, Aborted}
@@ -32,6 +32,7 @@ use Rattle.ua_conn.proofs.BothEnds.SpokenRequestLemmas.{told, AreSpoken, AreWith
 use Rattle.ua_conn.proofs.BothEnds.SpokenTurnLemmas.{parts_within}
 use Rattle.ua_conn.proofs.BothEnds.SpokenTableLemmas.{hears, IsAnswering}
 use Rattle.ua_conn.proofs.BothEnds.ClientWalkLemmas.{Stands, Got, Wanted, answer_got, abort_got}
+use Rattle.ua_conn.proofs.BothEnds.PlainForms.{IsPlain}
 
 -- the answer is of the kind that the request asks for
 pub answer_fits : (c : Configuration) (r : Request) (now : ℕ) → fits r (answer_of c r (pos now)) ≡ true
@@ -55,7 +56,7 @@ expected_whole s request now over = λ i. if over i then Aborted 0x80B90000 else
 
 -- The frames of the answer to a request that is wanted: each is accepted, and with the last comes what is expected.
 pub expected_got : (s : Setup) (cmds : Commands) (past : Past) (tokens : List Token) (last : Option ℕ) (request : Request) (now token id n : ℕ) (fs : List Frame) (place : ℕ) (ends opens : List ℕ) (all : List Token)
-    → IsSetup s → IsRequest request → now < 2 ^ 63 → token < 2 ^ 32 → id < 2 ^ 32 → 0 < length tokens → is_known tokens token ≡ true → follows_last last (number_after 1 n) ≡ true
+    → IsPlain s → IsRequest request → now < 2 ^ 63 → token < 2 ^ 32 → id < 2 ^ 32 → 0 < length tokens → is_known tokens token ≡ true → follows_last last (number_after 1 n) ≡ true
     → (let a = agreed s.site (hello_by s.asker) in let parts = answer_parts a id (answer_body s.site.settings request now) in
     AreSpoken fs (told s.site.channel token 1 n parts) → Stands past (hears a.ack s.site.channel tokens last None) ends opens all → place ≤ bytes_in past → Wanted cmds ends place id request
     → Got s.asker cmds past fs (hears a.ack s.site.channel tokens (Some (number_after 1 (n + length parts - 1))) None) (record { id = id; request = request; result = expected s request now } ∷ []) (id ∷ ends) opens all)

@@ -20,7 +20,7 @@ use Rattle.ua_conn.specs.client.Pending.{ended_ids, opened_ids}
 use Rattle.ua_conn.specs.client.Past.{client_known}
 use Rattle.ua_conn.specs.client.Reading.{answers}
 use Rattle.ua_conn.specs.Story.{Setup}
-use Rattle.ua_conn.specs.BothEnds.{AllAfter, IsSetup, served_by}
+use Rattle.ua_conn.specs.BothEnds.{AllAfter, served_by}
 use Rattle.ua_conn.proofs.ServerEnd.KnownLemmas.{known_step}
 use Rattle.ua_conn.proofs.BothEnds.ServerWalkLemmas.{fault_is}
 use Rattle.ua_conn.proofs.BothEnds.OnTheWayLemmas.{Sound, Accepts}
@@ -33,6 +33,7 @@ use Rattle.ua_conn.proofs.BothEnds.SpokenTableLemmas.{hears}
 use Rattle.ua_conn.proofs.BothEnds.ClientWalkLemmas.{Got}
 use Rattle.ua_conn.proofs.BothEnds.OpeningKeepLemmas.{client_of}
 use Rattle.ua_conn.proofs.BothEnds.OpeningWalkLemmas.{acknowledge_got}
+use Rattle.ua_conn.proofs.BothEnds.PlainForms.{IsPlain}
 
 -- ---- frames that carry no token
 
@@ -90,7 +91,7 @@ pub record Greeted (s : Setup) (p r : Frame) : Type 0 where
   pub opened : opened_ids (r ∷ []) ≡ []
   pub answered : (cmds : Commands) → answers cmds (r ∷ []) ≡ []
 
-pub greeted : (s : Setup) → IsSetup s → (p r : Frame) → p.bytes ≡ spell (Greets (hello_by s.asker)) → r.bytes ≡ spell (Acknowledges (negotiated s.site.settings.limits (hello_by s.asker))) → Greeted s p r
+pub greeted : (s : Setup) → IsPlain s → (p r : Frame) → p.bytes ≡ spell (Greets (hello_by s.asker)) → r.bytes ≡ spell (Acknowledges (negotiated s.site.settings.limits (hello_by s.asker))) → Greeted s p r
 greeted s h p r e d =
     let hello = hello_by s.asker in
     let limits = s.site.settings.limits in

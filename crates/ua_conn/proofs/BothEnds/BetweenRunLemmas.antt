@@ -1,8 +1,9 @@
 -- The beginning of a conversation, and all steps of its schedule.
 use Rattle.std.proofs.Common.{◌≡◌, ℕ, ◌+◌, ◌<◌, ◌≤◌, false, List, [], ◌∷◌, ◌++◌, take, length, get_or, Option, None, refl, sym, ap, subst, ◌∙◌, arith}
-use Rattle.std.proofs.lemmas.List.{take_all, take_more}
+use Rattle.std.proofs.lemmas.List.{append-nil, take_all, take_more}
 use Rattle.ua_frame.specs.Streams.{TimedByte, moment_of, cuts_within, rest_within}
 use Rattle.ua_conn.specs.server.Site.{Site}
+use Rattle.ua_conn.specs.server.Greeting.{greeting}
 use Rattle.ua_conn.specs.server.Replies.{end_of}
 use Rattle.ua_conn.specs.server.Held.{held, stop}
 use Rattle.ua_conn.specs.server.Feeding.{Shown}
@@ -23,7 +24,7 @@ use Rattle.ua_conn.specs.declared.client.fault.ClientFault.{ClientFault}
 pub begins_between : (s : Setup) (r : Run) → 1 ≤ s.asker.first_sequence → r.clock ≡ s.start →
     r.client ≡ record { config = s.asker.config; held = client_held s.asker []; output = []; failed = false } →
     r.server ≡ record { site = s.site; held = held s.site []; failed = false } → r.up ≡ client_bytes s.asker [] [] →
-    r.up_to ≡ 0 → r.down_to ≡ 0 → r.asked ≡ [] → r.handed ≡ [] → r.answers ≡ [] → r.down ≡ [] → r.server_end ≡ None → r.client_fault ≡ None → Between s (begun s) r
+    r.up_to ≡ 0 → r.down_to ≡ 0 → r.asked ≡ [] → r.handed ≡ [] → r.answers ≡ [] → r.down ≡ greeting s.asker.reverse s.site.settings → r.server_end ≡ None → r.client_fault ≡ None → Between s (begun s) r
 unfolding cuts_within rest_within fault_in_rest client_fault_in_rest
 begins_between s r first clock shown serves up up_to down_to asked_none handed_none answers_none down end fault =
     record {
@@ -41,7 +42,7 @@ begins_between s r first clock shown serves up up_to down_to asked_none handed_n
       handed_are = handed_none;
       answers_are = answers_none;
       up_is = up;
-      down_is = down;
+      down_is = down ∙ sym (append-nil (greeting s.asker.reverse s.site.settings));
       all_sent = ap (λ (k : ClientShown). k.output) shown;
       up_to = up_to;
       up_within = omega (arith, up_to);

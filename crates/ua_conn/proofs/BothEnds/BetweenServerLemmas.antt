@@ -5,6 +5,7 @@ use Rattle.ua_frame.specs.Streams.{Piece, TimedByte, at, timed, latest, moment_o
 use Rattle.ua_frame.specs.StreamLaws.{timed_more, latest_more}
 use Rattle.ua_service.specs.declared.request.Request.{Request}
 use Rattle.ua_conn.specs.server.Replies.{Reading, replies, requests, failing, spelled_all, reply_bytes, handed, end_of}
+use Rattle.ua_conn.specs.server.Greeting.{greeting}
 use Rattle.ua_conn.specs.server.Held.{stop}
 use Rattle.ua_conn.specs.server.Feeding.{Shown, FeedsAll, Feeds}
 use Rattle.ua_conn.specs.client.Commands.{asked}
@@ -58,7 +59,7 @@ served_between s w r n up_to server down' handed' end' b more served = by served
     up = delivered w.clock w.up n (client_stream s w)
 
     -- what the server shows and what came of it, as the new world says
-    full : (reply : down' ≡ reply_bytes false s.site up) → handed' ≡ handed s.site up → length r.down ≤ length down' → ServerAt s.site now up server end' →
+    full : (reply : down' ≡ reply_bytes s.asker.reverse s.site up) → handed' ≡ handed s.site up → length r.down ≤ length down' → ServerAt s.site now up server end' →
         Between s (record w { up = up }) (served_run r server up_to handed' down' end')
     full reply hands grows at_end = record {
       clock = b.clock;
@@ -94,7 +95,7 @@ served_between s w r n up_to server down' handed' end' b more served = by served
         let moment : max (latest ps) now ≡ now = omega (arith, g.before) in
         let stream : timed (ps ++ y ∷ []) ≡ up = timed_more 0 ps y ∙ (λ i. g.stream i ++ map (at (moment i)) y.bytes) in
         let ending : end' ≡ stop (end_of s.site up) = f.came_is ∙ ap (λ v. stop (end_of s.site v)) stream in
-        full (f.out_is ∙ (λ i. (b.down_is ∙ ap (reply_bytes false s.site) (sym g.stream)) i ++ f.added) ∙ sym (f.replied false) ∙ ap (reply_bytes false s.site) stream)
+        full (f.out_is ∙ (λ i. (b.down_is ∙ ap (reply_bytes s.asker.reverse s.site) (sym g.stream)) i ++ f.added) ∙ sym (f.replied s.asker.reverse) ∙ ap (reply_bytes s.asker.reverse s.site) stream)
         (hands ∙ (λ i. (b.handed_are ∙ ap (handed s.site) (sym g.stream)) i ++ asked) ∙ sym f.hands ∙ ap (handed s.site) stream)
         (omega (arith, ap length f.out_is, length-append r.down f.added))
         (at_end ps asked f g end' refl ending stream)
@@ -105,7 +106,7 @@ served_between s w r n up_to server down' handed' end' b more served = by served
     when_over failed server_is down_is handed_is end_is (Serves ps g e) = absurd (true≢false (sym failed ∙ ap (λ (v : Shown). v.failed) g.shows))
     when_over failed server_is down_is handed_is end_is (Stopped e f is shows) =
         let stays = reading_stays s.site w.up (map (at now) y.bytes) e is in
-        full (down_is ∙ b.down_is ∙ (λ i. spelled_all s.site 0 (replies s.site (sym stays i).past ++ failing (sym stays i).ending)))
+        full (down_is ∙ b.down_is ∙ (λ i. greeting s.asker.reverse s.site.settings ++ spelled_all s.site 0 (replies s.site (sym stays i).past ++ failing (sym stays i).ending)))
         (handed_is ∙ b.handed_are ∙ (λ i. requests s.site (sym stays i).past))
         (omega (arith, ap length down_is))
         (Stopped e (ap (λ (v : Shown). v.failed) server_is ∙ f) (ap (λ (R : Reading). stop R.ending) stays ∙ is) (end_is ∙ shows))

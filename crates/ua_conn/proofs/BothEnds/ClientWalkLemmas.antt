@@ -89,7 +89,7 @@ granted_more f past b e =
 -- a part of an answer, or an abort in its place
 message_got : (a : Asker) (cmds : Commands) (past : Past) (f : Frame) (ack : Ack) (channel : ℕ) (tokens : List Token) (last : Option ℕ) (half next : Option Half) (request : Request) (token number : ℕ) (p : Part) (items : List Answer) (b : Bool)
     (ends opens : List ℕ) (all : List Token) → Stands past (hears ack channel tokens last half) ends opens all → IsRead f (Tells channel token number p) → wanted_at cmds past (bytes_in (f ∷ past)) p.id ≡ Some request
-    → ((due : Option ℕ) → client_fault_by a (hears ack channel tokens last half) due (Some request) true f ≡ None) → is_known tokens token ≡ true → half_after half p.flag p.id p.bytes ≡ next
+    → ((due : Option ℕ) → client_fault_by a false (hears ack channel tokens last half) due (Some request) true f ≡ None) → is_known tokens token ≡ true → half_after half p.flag p.id p.bytes ≡ next
     → answer_at (hears ack channel tokens last half) (Some request) f ≡ items → ends_message p.flag ≡ b
     → Got a cmds past (f ∷ []) (hears ack channel tokens (Some number) next) items (cond b (p.id ∷ ends) ends) opens all
 message_got a cmds past f ack channel tokens last half next request token number p items b ends opens all at read want fine known put gives flag =
@@ -101,7 +101,7 @@ message_got a cmds past f ack channel tokens last half next request token number
     let one : ends_one f ≡ b = (λ i. is_message (read.kind i) && ends_message (read.flag i)) ∙ flag in
     let other : is_open (kind_of f.bytes) ≡ false = ap is_open read.kind in
     record {
-      taken = ((λ i. client_fault_by a (at.known i) (due_at cmds past end) (wanted i) (named i) f) ∙ fine (due_at cmds past end), tt);
+      taken = ((λ i. client_fault_by a false (at.known i) (due_at cmds past end) (wanted i) (named i) f) ∙ fine (due_at cmds past end), tt);
       answered = ap (λ l. answers cmds past ++ l) ((λ i. answer_at (at.known i) (wanted i) f) ∙ gives);
       stands = record {
         known = client_known_step f past ∙ ap (λ (x : ClientKnown). client_known_after x f) at.known ∙ known_heard ack channel tokens last half next token number p f read put;

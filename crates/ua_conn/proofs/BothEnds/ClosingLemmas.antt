@@ -12,11 +12,11 @@ use Rattle.ua_conn.specs.Past.{Past, known, is_close}
 use Rattle.ua_conn.specs.server.Faults.{fault_at}
 use Rattle.ua_conn.specs.server.Replies.{Reading, reading}
 use Rattle.ua_conn.specs.server.Held.{newest_first}
-use Rattle.ua_conn.specs.client.Asker.{Asker}
+use Rattle.ua_conn.specs.client.Asker.{Asker, hello_by}
 use Rattle.ua_conn.specs.client.Commands.{Act, Ask, Renew, Close, Commands, next_id, closes, is_closed}
-use Rattle.ua_conn.specs.client.Past.{ClientKnown, client_known, acknowledge_frame_in}
+use Rattle.ua_conn.specs.client.Past.{ClientKnown, client_known, acknowledge_frame_in, reverse_frame_in}
 use Rattle.ua_conn.specs.client.Pending.{come_by}
-use Rattle.ua_conn.specs.client.Sending.{Sent, Greeting, Opening, Asking, Closing, sent_bytes, more_sent, opens_by, act_says, commands_say, sent_by}
+use Rattle.ua_conn.specs.client.Sending.{Sent, Greeting, Opening, Asking, Closing, sent_bytes, more_sent, greets_by, greets, opens_by, act_says, commands_say, sent_by}
 use Rattle.ua_conn.specs.BothEnds.{AllAfter}
 use Rattle.ua_conn.specs.declared.outcome.End.TheVariants.{Closed, Refused}
 use Rattle.ua_conn.proofs.BothEnds.OnTheWayLemmas.{frames_sent, Are}
@@ -74,14 +74,20 @@ opens_calm : (a : Asker) (o : Option Frame) → AllCalm (opens_by a o)
 opens_calm a None = tt
 opens_calm a (Some f) = (refl, tt)
 
+greets_calm : (a : Asker) (b : Bool) (o : Option Frame) → AllCalm (cond b (greets_by a o) (Greeting (hello_by a) ∷ []))
+greets_calm a true None = tt
+greets_calm a true (Some f) = (refl, tt)
+greets_calm a false o = (refl, tt)
+
 pub sent_ends : (a : Asker) (cmds : Commands) (past : Past) → ClosesLast cmds → EndsCalm (sent_by a cmds past)
-sent_ends a [] past h = (inr refl, calm_then (opens_by a (acknowledge_frame_in past)) [] (opens_calm a (acknowledge_frame_in past)) tt)
+sent_ends a [] past h =
+    calm_then (greets a past) (opens_by a (acknowledge_frame_in past) ++ []) (greets_calm a a.reverse (reverse_frame_in past))
+    (calm_then (opens_by a (acknowledge_frame_in past)) [] (opens_calm a (acknowledge_frame_in past)) tt)
 sent_ends a (c ∷ cmds) past h =
-    let says = act_says a (next_id cmds) c.moment (client_known (come_by c.seen past)) c.act in (
-      inr refl,
-      calm_then (opens_by a (acknowledge_frame_in past)) (commands_say a cmds past ++ says) (opens_calm a (acknowledge_frame_in past))
-          (calm_then (commands_say a cmds past) says (commands_calm a cmds past h) (act_ends a (next_id cmds) c.moment (client_known (come_by c.seen past)) c.act)),
-    )
+    let says = act_says a (next_id cmds) c.moment (client_known (come_by c.seen past)) c.act in
+    calm_then (greets a past) (opens_by a (acknowledge_frame_in past) ++ (commands_say a cmds past ++ says)) (greets_calm a a.reverse (reverse_frame_in past))
+    (calm_then (opens_by a (acknowledge_frame_in past)) (commands_say a cmds past ++ says) (opens_calm a (acknowledge_frame_in past))
+    (calm_then (commands_say a cmds past) says (commands_calm a cmds past h) (act_ends a (next_id cmds) c.moment (client_known (come_by c.seen past)) c.act)))
 
 -- ---- as frames
 

@@ -18,7 +18,6 @@ use Rattle.ua_conn.specs.client.Asker.{hello_by}
 use Rattle.ua_conn.specs.client.Commands.{Ask, Renew, Close, Command, Commands, OpenAsked, opens_asked, next_id}
 use Rattle.ua_conn.specs.client.Sending.{Sent, Opening, Asking, Closing, sent_bytes, sent_after}
 use Rattle.ua_conn.specs.client.Questions.{open_asked_body, close_asked_body}
-use Rattle.ua_conn.specs.BothEnds.{IsSetup}
 use Rattle.ua_conn.specs.Story.{Setup}
 use Rattle.ua_conn.proofs.BothEnds.AnswerWalkLemmas.{told_replies}
 use Rattle.ua_conn.proofs.BothEnds.CommandStepLemmas.{Adds}
@@ -32,6 +31,7 @@ use Rattle.ua_conn.proofs.BothEnds.SpokenReplyLemmas.{reply_spelled, replies_spo
 use Rattle.ua_conn.proofs.BothEnds.SpokenRequestLemmas.{says_all, told, AreSpoken, last_moment, replies_go}
 use Rattle.ua_conn.proofs.BothEnds.SpokenSessionLemmas.{open_body, close_body}
 use Rattle.ua_conn.proofs.BothEnds.StoryLemmas.{sent_spelled, all_spoken}
+use Rattle.ua_conn.proofs.BothEnds.PlainForms.{IsPlain}
 
 -- ---- lists of one frame, or none
 
@@ -65,7 +65,7 @@ asked_count n channel token (p ∷ parts) = asked_count (n + 1) channel token pa
 
 -- ---- a request
 
-pub ask_adds : (s : Setup) (cmds : Commands) (request : Request) (part now seen o : ℕ) → IsSetup s → Fits s cmds request part → 1 ≤ o → o ≤ length (opens_asked cmds) → length (opens_asked cmds) ≤ o + 1 → o < 2 ^ 32
+pub ask_adds : (s : Setup) (cmds : Commands) (request : Request) (part now seen o : ℕ) → IsPlain s → Fits s cmds request part → 1 ≤ o → o ≤ length (opens_asked cmds) → length (opens_asked cmds) ≤ o + 1 → o < 2 ^ 32
     → Adds s cmds (record { act = Ask request part; moment = now; seen = seen }) o (map (Asking s.site.channel o) (fill (next_id cmds) (canon_request request) part))
 ask_adds s cmds request part now seen o h fit some low high short sent there here qs ns timely le hold asked replied =
     let site = s.site in
@@ -90,7 +90,7 @@ ask_adds s cmds request part now seen o h fit some low high short sent there her
 
 -- ---- a renewal
 
-pub renew_adds : (s : Setup) (cmds : Commands) (now seen o : ℕ) → IsSetup s → 1 ≤ length (opens_asked cmds) → length (opens_asked cmds) + 1 < 2 ^ 32 → next_id cmds < 2 ^ 32 → now < 2 ^ 63
+pub renew_adds : (s : Setup) (cmds : Commands) (now seen o : ℕ) → IsPlain s → 1 ≤ length (opens_asked cmds) → length (opens_asked cmds) + 1 < 2 ^ 32 → next_id cmds < 2 ^ 32 → now < 2 ^ 63
     → Adds s cmds (record { act = Renew; moment = now; seen = seen }) o (Opening s.site.channel (next_id cmds) (open_asked_body now (next_id cmds) 1 s.asker.config.lifetime) ∷ [])
 renew_adds s cmds now seen o h some few unspent clock sent there here qs ns timely le hold asked replied =
     let site = s.site in
@@ -126,7 +126,7 @@ close_says : (site : Site) (k : Known) (f : Frame) → kind_of f.bytes ≡ Some 
 unfolding reply_to
 close_says site k f e = ap (reply_by site k f) e
 
-pub close_adds : (s : Setup) (cmds : Commands) (now seen o : ℕ) → IsSetup s → 1 ≤ o → o ≤ length (opens_asked cmds) → length (opens_asked cmds) ≤ o + 1 → o < 2 ^ 32 → next_id cmds < 2 ^ 32 → now < 2 ^ 63
+pub close_adds : (s : Setup) (cmds : Commands) (now seen o : ℕ) → IsPlain s → 1 ≤ o → o ≤ length (opens_asked cmds) → length (opens_asked cmds) ≤ o + 1 → o < 2 ^ 32 → next_id cmds < 2 ^ 32 → now < 2 ^ 63
     → Adds s cmds (record { act = Close; moment = now; seen = seen }) o (Closing s.site.channel o (next_id cmds) (close_asked_body now (next_id cmds)) ∷ [])
 close_adds s cmds now seen o h some low high short unspent clock sent there here qs ns timely le hold asked replied =
     let site = s.site in

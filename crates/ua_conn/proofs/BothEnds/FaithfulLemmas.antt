@@ -1,6 +1,6 @@
 -- Faithful streams: after every schedule, what was delivered is a beginning of what was sent, each way.
 use mathlib.Core.List.{IsPrefix}
-use Rattle.std.proofs.Common.{◌≡◌, ℕ, ◌≤◌, Bool, true, false, List, [], ◌∷◌, ◌++◌, map, take, drop, length, Option, Some, None, refl, sym, ap, subst, ◌∙◌, arith, append_assoc, ◌⊎◌, inl, inr}
+use Rattle.std.proofs.Common.{◌≡◌, ℕ, ◌≤◌, Bool, true, false, cond, List, [], ◌∷◌, ◌++◌, map, take, drop, length, Option, Some, None, refl, sym, ap, subst, ◌∙◌, arith, append_assoc, ◌⊎◌, inl, inr}
 use Rattle.std.specs.Prelude.{ℤ, ◌==◌, ◌&&◌, not, is_some, option_map}
 use Rattle.std.proofs.lemmas.List.{append-nil, take-append-drop, length-append}
 use Rattle.std.proofs.lemmas.Bool.{not-false}
@@ -16,13 +16,13 @@ use Rattle.ua_service.specs.declared.request.Request.{Request}
 use Rattle.ua_conn.specs.Past.{Past, is_open, carried}
 use Rattle.ua_conn.specs.server.Replies.{reply_bytes}
 use Rattle.ua_conn.specs.server.Held.{newest_first}
-use Rattle.ua_conn.specs.client.Asker.{Asker}
+use Rattle.ua_conn.specs.client.Asker.{Asker, hello_by}
 use Rattle.ua_conn.specs.client.Commands.{Act, Ask, Renew, Close, Command, Commands, next_id, is_closed}
-use Rattle.ua_conn.specs.client.Past.{client_known, granted_in, ack_by, or_frame, acknowledge_frame_in, is_acknowledge_frame}
+use Rattle.ua_conn.specs.client.Past.{client_known, granted_in, ack_by, or_frame, acknowledge_frame_in, is_acknowledge_frame, awaits_reverse}
 use Rattle.ua_conn.specs.client.Pending.{bytes_in, come_by, due_at, wanted_at}
 use Rattle.ua_conn.specs.client.Faults.{greatest_answer, client_rows, client_fault_by, is_awaited, token_usable}
 use Rattle.ua_conn.specs.client.Reading.{ClientReading, client_fault_at, client_reading, client_reading_of, client_fault}
-use Rattle.ua_conn.specs.client.Sending.{Sent, sent_bytes, more_sent, sent_after, sent_all, greets, opens, opens_by, act_says, commands_say, sent_by, client_bytes}
+use Rattle.ua_conn.specs.client.Sending.{Sent, Greeting, sent_bytes, more_sent, sent_after, sent_all, greets, opens, opens_by, act_says, commands_say, sent_by, client_bytes}
 use Rattle.ua_conn.specs.client.Asking.{standing, act_rows, ask_fault}
 use Rattle.ua_conn.specs.Story.{Setup, World, begun, client_stream, server_stream, delivered, told_by, came_by, happens, run, final}
 use Rattle.ua_conn.specs.BothEnds.{Faithful}
@@ -37,6 +37,7 @@ use Rattle.ua_conn.proofs.TableLemmas.{all_no, or_none}
 use Rattle.ua_conn.proofs.ServerEnd.GrowthLemmas.{reply_grows}
 use Rattle.ua_conn.proofs.ClientEnd.PlaceLemmas.{AllBehind, AllWithin, frames_within, later_frames, come_by_same, behind_less, behind_weaker}
 use Rattle.ua_conn.proofs.ClientEnd.ReadingLemmas.{ReadsOn, reads_more, reads_same, along_reading}
+use Rattle.ua_conn.proofs.ClientEnd.GreetingLemmas.{IsGreeted, unheard, greeted, greeted_of, greeted_acked, greets_along}
 
 -- ---- beginnings
 
@@ -105,18 +106,44 @@ pub data IsStarted (cmds : Commands) (past : Past) : Type 0 where
   acknowledged : (f : Frame) → acknowledge_frame_in past ≡ Some f → IsStarted cmds past
 
 -- behind the Acknowledge, frames that come later change nothing of what is sent
-pub sent_same : (a : Asker) (n : ℕ) (cmds : Commands) (fs : List Frame) (past : Past) (f : Frame) → AllSeen n cmds → AllBehind n past fs → acknowledge_frame_in past ≡ Some f → sent_by a cmds past ≡ sent_by a cmds (newest_first fs past)
-sent_same a n cmds fs past f h b e = λ i. greets a past ++ opens_by a ((e ∙ sym (acknowledge_same fs past f e)) i) ++ sym (commands_same a n cmds fs past h b) i
+pub sent_same : (a : Asker) (n : ℕ) (cmds : Commands) (fs : List Frame) (past : Past) (f : Frame) → AllSeen n cmds → AllBehind n past fs → IsGreeted a past → acknowledge_frame_in past ≡ Some f →
+    sent_by a cmds past ≡ sent_by a cmds (newest_first fs past)
+sent_same a n cmds fs past f h b g e = λ i. sym (greets_along a fs past (greeted_acked a past f g e)) i ++ (opens_by a ((e ∙ sym (acknowledge_same fs past f e)) i) ++ sym (commands_same a n cmds fs past h b) i)
 
-sent_more : (a : Asker) (n : ℕ) (cmds : Commands) (fs : List Frame) (past : Past) → AllSeen n cmds → AllBehind n past fs → IsStarted cmds past → IsPrefix (sent_by a cmds past) (sent_by a cmds (newest_first fs past))
-sent_more a n cmds fs past h b (acknowledged f e) = subst (λ (xs : List Sent). IsPrefix (sent_by a cmds past) xs) (sent_same a n cmds fs past f h b e) (prefix_self (sent_by a cmds past))
-sent_more a n cmds fs past h b (untold e) = subst (λ (cs : Commands). IsPrefix (sent_by a cs past) (sent_by a cs (newest_first fs past))) (sym e) (by (acknowledge_frame_in past) refl)
+pub nothing_said : (a : Asker) → awaits_reverse a.reverse [] ≡ true → sent_by a [] [] ≡ []
+nothing_said a h = by a.reverse h
   where
-    by : (o : Option Frame) → acknowledge_frame_in past ≡ o → IsPrefix (sent_by a [] past) (sent_by a [] (newest_first fs past))
-    by None k = (opens a (newest_first fs past) ++ [], ap (λ o. (greets a past ++ opens_by a o ++ []) ++ (opens a (newest_first fs past) ++ [])) k)
-    by (Some f) k =
-        let same : sent_by a [] past ≡ sent_by a [] (newest_first fs past) = λ i. greets a past ++ opens_by a ((k ∙ sym (acknowledge_same fs past f k)) i) ++ [] in
+    by : (b : Bool) → (b && true) ≡ true → (cond b [] (Greeting (hello_by a) ∷ []) ++ []) ≡ []
+    by true h = refl
+    by false h = absurd (cc h)
+
+sent_more : (a : Asker) (n : ℕ) (cmds : Commands) (fs : List Frame) (past : Past) → AllSeen n cmds → AllBehind n past fs → IsGreeted a past → IsStarted cmds past → IsPrefix (sent_by a cmds past) (sent_by a cmds (newest_first fs past))
+sent_more a n cmds fs past h b g (acknowledged f e) = subst (λ (xs : List Sent). IsPrefix (sent_by a cmds past) xs) (sent_same a n cmds fs past f h b g e) (prefix_self (sent_by a cmds past))
+sent_more a n cmds fs past h b g (untold e) = subst (λ (cs : Commands). IsPrefix (sent_by a cs past) (sent_by a cs (newest_first fs past))) (sym e) (by g)
+  where
+    later : Past
+    later = newest_first fs past
+
+    -- once the Hello was said
+    said : awaits_reverse a.reverse past ≡ false → (o : Option Frame) → acknowledge_frame_in past ≡ o → IsPrefix (sent_by a [] past) (sent_by a [] later)
+    said w None k = (
+      opens a later ++ [],
+      ap (λ o. (greets a past ++ (opens_by a o ++ [])) ++ (opens a later ++ [])) k ∙ ap (λ l. l ++ (opens a later ++ [])) (append-nil (greets a past)) ∙ ap (λ l. l ++ (opens a later ++ [])) (sym (greets_along a fs past w)),
+    )
+    said w (Some f) k =
+        let same : sent_by a [] past ≡ sent_by a [] later = λ i. sym (greets_along a fs past w) i ++ (opens_by a ((k ∙ sym (acknowledge_same fs past f k)) i) ++ []) in
         subst (λ (xs : List Sent). IsPrefix (sent_by a [] past) xs) same (prefix_self (sent_by a [] past))
+
+    -- before any frame: a Hello, or nothing yet
+    unsaid : (b : Bool) → awaits_reverse a.reverse past ≡ b → past ≡ [] → IsPrefix (sent_by a [] past) (sent_by a [] later)
+    unsaid false w none = said w (acknowledge_frame_in past) refl
+    unsaid true w none =
+        let silent : sent_by a [] past ≡ [] = ap (sent_by a []) none ∙ nothing_said a (ap (awaits_reverse a.reverse) (sym none) ∙ w) in
+        subst (λ (xs : List Sent). IsPrefix xs (sent_by a [] later)) (sym silent) (sent_by a [] later, refl)
+
+    by : IsGreeted a past → IsPrefix (sent_by a [] past) (sent_by a [] later)
+    by (greeted w) = said w (acknowledge_frame_in past) refl
+    by (unheard none) = unsaid (awaits_reverse a.reverse past) refl none
 
 -- ---- more comes
 
@@ -139,7 +166,7 @@ come_grows a cmds v t seen started =
     let P = (client_reading_of a cmds v).past in
     let r = reads_more a cmds v t in
     subst (λ (past : Past). IsPrefix (client_bytes a cmds v) (sent_all a.first_sequence 0 (sent_by a cmds past))) (sym r.behind)
-    (bytes_prefix a (sent_by a cmds P) (sent_by a cmds (newest_first r.more P)) (sent_more a (length v) cmds r.more P seen (stands_behind a cmds v t r) started))
+    (bytes_prefix a (sent_by a cmds P) (sent_by a cmds (newest_first r.more P)) (sent_more a (length v) cmds r.more P seen (stands_behind a cmds v t r) (greeted_of a cmds v) started))
 
 pub started_later : (a : Asker) (cmds : Commands) (v t : List TimedByte) → IsStarted cmds (client_reading_of a cmds v).past → IsStarted cmds (client_reading_of a cmds (v ++ t)).past
 started_later a cmds v t (untold e) = untold e
@@ -154,21 +181,25 @@ abbrev IsAcked : Past → Type 0
 IsAcked past = (granted_in past ≡ []) ⊎ ((f : Frame) × (acknowledge_frame_in past ≡ Some f))
 
 -- an OPN is awaited behind an Acknowledge alone
-awaited_open : (a : Asker) (past : Past) (due : Option ℕ) (wanted : Option Request) (usable : Bool) (f : Frame) → client_fault_by a (client_known past) due wanted usable f ≡ None → kind_of f.bytes ≡ Some kinds.Open →
+awaited_open : (a : Asker) (reverse : Bool) (past : Past) (due : Option ℕ) (wanted : Option Request) (usable : Bool) (f : Frame) → client_fault_by a reverse (client_known past) due wanted usable f ≡ None → kind_of f.bytes ≡ Some kinds.Open →
     (g : Frame) × (acknowledge_frame_in past ≡ Some g)
 unfolding client_fault_by client_known
-awaited_open a past due wanted usable f h kind = by (acknowledge_frame_in past) refl
+awaited_open a reverse past due wanted usable f h kind = by (acknowledge_frame_in past) refl
   where
-    rows : first_row (client_rows a (client_known past) due wanted usable f (flag_of f.bytes) (Some kinds.Open)) ≡ None
-    rows = ap (λ k. first_row (client_rows a (client_known past) due wanted usable f (flag_of f.bytes) k)) (sym kind) ∙ or_none (option_map Broken (header_fault (greatest_answer (client_known past).ack) f.bytes)) (first_row (client_rows a (client_known past) due wanted usable f (flag_of f.bytes) (kind_of f.bytes))) h
+    rows : first_row (client_rows a reverse (client_known past) due wanted usable f (flag_of f.bytes) (Some kinds.Open)) ≡ None
+    rows = ap (λ k. first_row (client_rows a reverse (client_known past) due wanted usable f (flag_of f.bytes) k)) (sym kind) ∙ or_none (option_map Broken (header_fault (greatest_answer (client_known past).ack) f.bytes)) (first_row (client_rows a reverse (client_known past) due wanted usable f (flag_of f.bytes) (kind_of f.bytes))) h
 
-    awaited : is_awaited (client_known past) due (Some kinds.Open) ≡ true
-    awaited = not-false (is_awaited (client_known past) due (Some kinds.Open)) (all_no (client_rows a (client_known past) due wanted usable f (flag_of f.bytes) (Some kinds.Open)) rows).0
+    awaited : is_awaited reverse (client_known past) due (Some kinds.Open) ≡ true
+    awaited = not-false (is_awaited reverse (client_known past) due (Some kinds.Open)) (all_no (client_rows a reverse (client_known past) due wanted usable f (flag_of f.bytes) (Some kinds.Open)) rows).0
+
+    either : (b : Bool) → cond b false false ≡ false
+    either true = refl
+    either false = refl
 
     by : (o : Option Frame) → acknowledge_frame_in past ≡ o → (g : Frame) × (acknowledge_frame_in past ≡ Some g)
     by (Some g) e = (g, e)
     by None e =
-        let none : is_awaited (client_known past) due (Some kinds.Open) ≡ false = ap (λ o. is_awaited (record (client_known past) { ack = ack_by o }) due (Some kinds.Open)) e in
+        let none : is_awaited reverse (client_known past) due (Some kinds.Open) ≡ false = ap (λ o. is_awaited reverse (record (client_known past) { ack = ack_by o }) due (Some kinds.Open)) e ∙ either reverse in
         absurd (let c : true ≡ false = sym awaited ∙ none in cc)
 
 acked_step : (a : Asker) (cmds : Commands) (past : Past) (f : Frame) → client_fault_at a cmds past f ≡ None → IsAcked past → IsAcked (f ∷ past)
@@ -178,7 +209,7 @@ acked_step a cmds past f h (inl e) = by (is_open (kind_of f.bytes)) refl
     by : (b : Bool) → is_open (kind_of f.bytes) ≡ b → IsAcked (f ∷ past)
     by true o =
         let end = bytes_in (f ∷ past) in
-        let g = awaited_open a past (due_at cmds past end) (wanted_at cmds past end (carried f).request_id) (token_usable (client_known past) f) f h (is_open_tells _ o) in
+        let g = awaited_open a (awaits_reverse a.reverse past) past (due_at cmds past end) (wanted_at cmds past end (carried f).request_id) (token_usable (client_known past) f) f h (is_open_tells _ o) in
         inr (g.0, or_some (acknowledge_frame_in past) g.0 f (is_acknowledge_frame f) g.1)
     by false o = inl (rw o e)
 
@@ -262,8 +293,8 @@ flow_kept s w i steps.Close = flow_told s w i Close (ask_fault s.asker w.cmds w.
 flow_kept s w i (steps.Tick n) = record { up = i.up; down = i.down; seen = i.seen; started = i.started }
 flow_kept s w i (steps.Up n) = record {
   up = delivered_prefix w.clock w.up n (client_stream s w) i.up;
-  down = prefix_trans (plain w.down) (server_stream s w) (reply_bytes false s.site (delivered w.clock w.up n (client_stream s w))) i.down
-      (reply_grows false s.site w.up (map (at (moment_of w.clock)) (take n (drop (length w.up) (client_stream s w)))));
+  down = prefix_trans (plain w.down) (server_stream s w) (reply_bytes s.asker.reverse s.site (delivered w.clock w.up n (client_stream s w))) i.down
+      (reply_grows s.asker.reverse s.site w.up (map (at (moment_of w.clock)) (take n (drop (length w.up) (client_stream s w)))));
   seen = i.seen;
   started = i.started;
 }

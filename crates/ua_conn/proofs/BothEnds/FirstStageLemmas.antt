@@ -1,5 +1,5 @@
 -- Before the first command: whatever is on the way is the Hello, and the first open request once the Acknowledge came, and their answers.
-use Rattle.std.proofs.Common.{◌≡◌, ℕ, ◌<◌, ◌^◌, Bool, true, false, List, [], ◌∷◌, ◌++◌, length, Option, Some, None, refl, sym, ap, subst, ◌∙◌, arith}
+use Rattle.std.proofs.Common.{◌≡◌, ℕ, ◌<◌, ◌^◌, Bool, true, false, cond, List, [], ◌∷◌, ◌++◌, length, Option, Some, None, refl, sym, ap, subst, ◌∙◌, arith}
 use Rattle.std.proofs.lemmas.List.{map-append}
 use Rattle.ua_frame.specs.Streams.{TimedByte}
 use Rattle.ua_frame.specs.Layout.{Frame, frames_of, kind_of}
@@ -12,13 +12,13 @@ use Rattle.ua_conn.specs.Past.{Past, known, has_token, tokens_in}
 use Rattle.ua_conn.specs.server.Answers.{opened_body}
 use Rattle.ua_conn.specs.server.Faults.{fault_at}
 use Rattle.ua_conn.specs.server.Replies.{Reply, Acknowledge, Opened, spelled, numbered_after, replies, first_fault}
-use Rattle.ua_conn.specs.client.Asker.{hello_by}
+use Rattle.ua_conn.specs.client.Asker.{Asker, hello_by}
 use Rattle.ua_conn.specs.client.Commands.{Commands}
-use Rattle.ua_conn.specs.client.Past.{acknowledge_frame_in, or_frame, is_acknowledge_frame}
-use Rattle.ua_conn.specs.client.Sending.{Sent, Greeting, Opening, sent_bytes, opens_by, sent_by}
+use Rattle.ua_conn.specs.client.Past.{acknowledge_frame_in, or_frame, is_acknowledge_frame, reverse_frame_in}
+use Rattle.ua_conn.specs.client.Sending.{Sent, Greeting, Opening, sent_bytes, greets_by, opens_by, sent_by}
 use Rattle.ua_conn.specs.client.Questions.{open_asked_body}
 use Rattle.ua_conn.specs.server.Held.{newest_first}
-use Rattle.ua_conn.specs.BothEnds.{AllAfter, IsSetup, IsLive, served_by, AnswersInOrder}
+use Rattle.ua_conn.specs.BothEnds.{AllAfter, IsLive, served_by, AnswersInOrder}
 use Rattle.ua_conn.specs.Story.{Setup}
 use Rattle.ua_conn.proofs.BothEnds.AliveLemmas.{server_well}
 use Rattle.ua_conn.proofs.BothEnds.BaseLemmas.{greeted}
@@ -35,6 +35,7 @@ use Rattle.ua_conn.proofs.BothEnds.SpokenSessionLemmas.{opening_taken, open_body
 use Rattle.ua_conn.proofs.BothEnds.SpokenRequestLemmas.{replies_go}
 use Rattle.ua_conn.proofs.BothEnds.StoryLemmas.{all_spoken, sent_spelled}
 use Rattle.ua_conn.proofs.BothEnds.WayLemmas.{way}
+use Rattle.ua_conn.proofs.BothEnds.PlainForms.{IsPlain}
 
 -- ---- live tokens are enough for the server
 
@@ -64,7 +65,7 @@ pair_of (f ∷ g ∷ h ∷ ps) b c e = absurd (cc e)
 abbrev pub opening_sent : Setup → ℕ → List Sent
 opening_sent s now = Greeting (hello_by s.asker) ∷ Opening 0 1 (open_asked_body now 1 0 s.asker.config.lifetime) ∷ []
 
-pub opened_core : (s : Setup) → IsSetup s → (o now : ℕ) (u : List TimedByte) → now < 2 ^ 63 → Core s [] o (opening_sent s now) u
+pub opened_core : (s : Setup) → IsPlain s → (o now : ℕ) (u : List TimedByte) → now < 2 ^ 63 → Core s [] o (opening_sent s now) u
 opened_core s h o now u clock ps rs c =
     let site = s.site in
     let hello = hello_by s.asker in
@@ -92,7 +93,7 @@ opened_core s h o now u clock ps rs c =
 
 -- ---- the Hello alone
 
-greeting_bears : (s : Setup) → IsSetup s → (u : List TimedByte) → BearsAll s [] (Greeting (hello_by s.asker) ∷ []) u
+greeting_bears : (s : Setup) → IsPlain s → (u : List TimedByte) → BearsAll s [] (Greeting (hello_by s.asker) ∷ []) u
 greeting_bears s h u ps rs c =
     let site = s.site in
     let hello = hello_by s.asker in
@@ -118,6 +119,10 @@ greeting_bears s h u ps rs c =
 
 -- ---- both
 
+-- before a command: the Hello, and the first open request once the Acknowledge came
+plain_sent : (a : Asker) (past : Past) → a.reverse ≡ false → (Greeting (hello_by a) ∷ opens_by a (acknowledge_frame_in past) ++ []) ≡ sent_by a [] past
+plain_sent a past plain = ap (λ b. cond b (greets_by a (reverse_frame_in past)) (Greeting (hello_by a) ∷ []) ++ (opens_by a (acknowledge_frame_in past) ++ [])) (sym plain)
+
 -- the moment at which the Acknowledge came is one of a clock
 abbrev pub IsAckTimely : Past → Type 0
 IsAckTimely past = (f : Frame) → acknowledge_frame_in past ≡ Some f → f.moment < 2 ^ 63
@@ -131,18 +136,18 @@ ack_timely (g ∷ fs) past h k = ack_timely fs (g ∷ past) h.1 (λ f e. by f (a
     by f None p true e = let same : g ≡ f = cc e in subst (λ (x : Frame). x.moment < 2 ^ 63) same h.0
     by f None p false e = absurd (cc e)
 
-pub first_core : (s : Setup) → IsSetup s → (o : ℕ) (past : Past) (f : Frame) (u : List TimedByte) → IsAckTimely past → acknowledge_frame_in past ≡ Some f → Core s [] o (sent_by s.asker [] past) u
+pub first_core : (s : Setup) → IsPlain s → (o : ℕ) (past : Past) (f : Frame) (u : List TimedByte) → IsAckTimely past → acknowledge_frame_in past ≡ Some f → Core s [] o (sent_by s.asker [] past) u
 first_core s h o past f u timely e =
-    let same : opening_sent s f.moment ≡ sent_by s.asker [] past = ap (λ m. Greeting (hello_by s.asker) ∷ opens_by s.asker m ++ []) (sym e) in
+    let same : opening_sent s f.moment ≡ sent_by s.asker [] past = ap (λ m. Greeting (hello_by s.asker) ∷ opens_by s.asker m ++ []) (sym e) ∙ plain_sent s.asker past h.plain in
     subst (λ xs. Core s [] o xs u) same (opened_core s h o f.moment u (timely f e))
 
-pub first_bears : (s : Setup) → IsSetup s → (past : Past) (u : List TimedByte) → IsAckTimely past → BearsAll s [] (sent_by s.asker [] past) u
+pub first_bears : (s : Setup) → IsPlain s → (past : Past) (u : List TimedByte) → IsAckTimely past → BearsAll s [] (sent_by s.asker [] past) u
 first_bears s h past u timely = by (acknowledge_frame_in past) refl
   where
     by : (o : Option Frame) → acknowledge_frame_in past ≡ o → BearsAll s [] (sent_by s.asker [] past) u
     by (Some f) e = bears_of s [] 0 (sent_by s.asker [] past) u (first_core s h 0 past f u timely e)
     by None e =
-        let same : Greeting (hello_by s.asker) ∷ [] ≡ sent_by s.asker [] past = ap (λ m. Greeting (hello_by s.asker) ∷ opens_by s.asker m ++ []) (sym e) in
+        let same : Greeting (hello_by s.asker) ∷ [] ≡ sent_by s.asker [] past = ap (λ m. Greeting (hello_by s.asker) ∷ opens_by s.asker m ++ []) (sym e) ∙ plain_sent s.asker past h.plain in
         subst (λ xs. BearsAll s [] xs u) same (greeting_bears s h u)
 
 -- ---- no frame of them names a token
@@ -151,7 +156,7 @@ untokened_live : (past : Past) (fs : List Frame) → AllAfter (λ past f. has_to
 untokened_live past [] h = tt
 untokened_live past (f ∷ fs) h = ((λ t. absurd (let clash : true ≡ false = sym t ∙ h.0 in cc clash)), untokened_live (f ∷ past) fs h.1)
 
-hello_untokened : (s : Setup) → IsSetup s → (n : ℕ) (f : Frame) → f.bytes ≡ sent_bytes n (Greeting (hello_by s.asker)) → has_token (kind_of f.bytes) ≡ false
+hello_untokened : (s : Setup) → IsPlain s → (n : ℕ) (f : Frame) → f.bytes ≡ sent_bytes n (Greeting (hello_by s.asker)) → has_token (kind_of f.bytes) ≡ false
 hello_untokened s h n f e = ap has_token (ap kind_of (e ∙ sent_spelled n (Greeting (hello_by s.asker))) ∙ (spell_is (Greets (hello_by s.asker)) h.asker.url).kind)
 
 open_untokened : (s : Setup) (n now : ℕ) (f : Frame) → f.bytes ≡ sent_bytes n (Opening 0 1 (open_asked_body now 1 0 s.asker.config.lifetime)) → has_token (kind_of f.bytes) ≡ false
@@ -161,23 +166,26 @@ open_untokened s n now f e =
     let bytes : f.bytes ≡ spell (Opens 0 n 1 body) = e ∙ sent_spelled n (Opening 0 1 (open_asked_body now 1 0 lifetime)) ∙ ap (λ b. spell (Opens 0 n 1 b)) (open_asked_is now 1 0 lifetime) in
     ap has_token (ap kind_of bytes ∙ (spell_is (Opens 0 n 1 body) (omega (arith, open_request_length now 1 0 lifetime))).kind)
 
-first_untokened : (s : Setup) → IsSetup s → (past : Past) (ps rs : List Frame) (u : List TimedByte) → Comes s (sent_by s.asker [] past) u ps rs → AllAfter (λ past f. has_token (kind_of f.bytes) ≡ false) [] ps
+first_untokened : (s : Setup) → IsPlain s → (past : Past) (ps rs : List Frame) (u : List TimedByte) → Comes s (sent_by s.asker [] past) u ps rs → AllAfter (λ past f. has_token (kind_of f.bytes) ≡ false) [] ps
 first_untokened s h past ps rs u c = by (acknowledge_frame_in past) refl
   where
     number : ℕ
     number = number_after s.asker.first_sequence 0
 
+    sent : Are ps (frames_sent s.asker.first_sequence 0 (Greeting (hello_by s.asker) ∷ opens_by s.asker (acknowledge_frame_in past) ++ []))
+    sent = c.sent ∙ ap (frames_sent s.asker.first_sequence 0) (sym (plain_sent s.asker past h.plain))
+
     by : (o : Option Frame) → acknowledge_frame_in past ≡ o → AllAfter (λ past f. has_token (kind_of f.bytes) ≡ false) [] ps
     by None e =
-        let one = single ps (sent_bytes number (Greeting (hello_by s.asker))) (c.sent ∙ ap (λ m. frames_sent s.asker.first_sequence 0 (Greeting (hello_by s.asker) ∷ opens_by s.asker m ++ [])) e) in
+        let one = single ps (sent_bytes number (Greeting (hello_by s.asker))) (sent ∙ ap (λ m. frames_sent s.asker.first_sequence 0 (Greeting (hello_by s.asker) ∷ opens_by s.asker m ++ [])) e) in
         subst (λ l. AllAfter (λ past f. has_token (kind_of f.bytes) ≡ false) [] l) (sym one.1) (hello_untokened s h number one.0 one.2, tt)
     by (Some f) e =
         let two = pair_of ps (sent_bytes number (Greeting (hello_by s.asker))) (sent_bytes number (Opening 0 1 (open_asked_body f.moment 1 0 s.asker.config.lifetime)))
-        (c.sent ∙ ap (λ m. frames_sent s.asker.first_sequence 0 (Greeting (hello_by s.asker) ∷ opens_by s.asker m ++ [])) e) in
+        (sent ∙ ap (λ m. frames_sent s.asker.first_sequence 0 (Greeting (hello_by s.asker) ∷ opens_by s.asker m ++ [])) e) in
         subst (λ l. AllAfter (λ past f. has_token (kind_of f.bytes) ≡ false) [] l) (sym two.2) (hello_untokened s h number two.0 two.3, (open_untokened s number f.moment two.1 two.4, tt))
 
 -- so the server refuses nothing
-pub first_calm : (s : Setup) → IsSetup s → (past : Past) (u : List TimedByte) → BeginsSpoken u (all_spoken s.asker.first_sequence 0 (sent_by s.asker [] past)) → AreMoments (λ m. m < 2 ^ 63) u → IsAckTimely past → first_fault s.site u ≡ None
+pub first_calm : (s : Setup) → IsPlain s → (past : Past) (u : List TimedByte) → BeginsSpoken u (all_spoken s.asker.first_sequence 0 (sent_by s.asker [] past)) → AreMoments (λ m. m < 2 ^ 63) u → IsAckTimely past → first_fault s.site u ≡ None
 first_calm s h past u b clock timely =
     let xs = sent_by s.asker [] past in
     let w = way s xs u [] [] [] b clock refl (frames_of u, refl) (replies s.site [], refl) in

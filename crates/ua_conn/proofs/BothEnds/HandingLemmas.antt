@@ -15,7 +15,7 @@ use Rattle.ua_conn.specs.client.Commands.{Command, Commands, Asked, asked, asked
 use Rattle.ua_conn.specs.client.Reading.{answers}
 use Rattle.ua_conn.specs.client.Sending.{Sent}
 use Rattle.ua_conn.specs.Story.{Setup}
-use Rattle.ua_conn.specs.BothEnds.{IsSetup, Served, served_by, AnswersInOrder}
+use Rattle.ua_conn.specs.BothEnds.{Served, served_by, AnswersInOrder}
 use Rattle.ua_conn.specs.declared.client.answer.Answer.{Answer}
 use Rattle.ua_conn.proofs.ServerEnd.ReadyLemmas.{newest_append}
 use Rattle.ua_conn.proofs.ClientEnd.FreshLemmas.{AreFresh}
@@ -30,6 +30,7 @@ use Rattle.ua_conn.proofs.BothEnds.SpokenLemmas.{BeginsSpoken}
 use Rattle.ua_conn.proofs.BothEnds.SpokenReplyLemmas.{AllFit, replies_fit, replies_sized}
 use Rattle.ua_conn.proofs.BothEnds.StoryLemmas.{all_spoken}
 use Rattle.ua_conn.proofs.BothEnds.WayLemmas.{way, server_stands}
+use Rattle.ua_conn.proofs.BothEnds.PlainForms.{IsPlain}
 
 -- ---- answers in order
 
@@ -53,7 +54,7 @@ fit_front : (limit : ℕ) (rs qs : List Reply) → AllFit limit (rs ++ qs) → A
 fit_front limit [] qs h = tt
 fit_front limit (r ∷ rs) qs h = (h.0, fit_front limit rs qs h.1)
 
-few_answers : (s : Setup) → IsSetup s → (cmds : Commands) (there : Past) (rs : List Frame) (said : List Reply) → Are rs (frames_replied s.site 0 said) → IsPrefix said (replies s.site there) → length (answers cmds (past_of rs)) ≤ length (served_by s.site there)
+few_answers : (s : Setup) → IsPlain s → (cmds : Commands) (there : Past) (rs : List Frame) (said : List Reply) → Are rs (frames_replied s.site 0 said) → IsPrefix said (replies s.site there) → length (answers cmds (past_of rs)) ≤ length (served_by s.site there)
 few_answers s h cmds there rs said is p =
     let site = s.site in
     let limit = max 8192 site.settings.limits.send in
@@ -80,7 +81,7 @@ Answered s cmds there = (rs : List Frame) (said : List Reply) → Are rs (frames
 abbrev pub HandsOn : Setup → Commands → Past → Type 0
 HandsOn s cmds there = IsPrefix (requests s.site there) (asked cmds)
 
-pub answered : (s : Setup) → IsSetup s → (cmds : Commands) (xs : List Sent) (u : List TimedByte) → BeginsSpoken u (all_spoken s.asker.first_sequence 0 xs) → AreMoments (λ m. m < 2 ^ 63) u → BearsAll s cmds xs u → Answered s cmds (reading_of s.site u).past
+pub answered : (s : Setup) → IsPlain s → (cmds : Commands) (xs : List Sent) (u : List TimedByte) → BeginsSpoken u (all_spoken s.asker.first_sequence 0 xs) → AreMoments (λ m. m < 2 ^ 63) u → BearsAll s cmds xs u → Answered s cmds (reading_of s.site u).past
 answered s h cmds xs u b clock bears rs said is p =
     let site = s.site in
     let g = server_stands site [] (frames_of u) (plain (rest_of u)) in

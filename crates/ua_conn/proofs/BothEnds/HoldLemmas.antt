@@ -27,7 +27,7 @@ use Rattle.ua_conn.specs.client.Commands.{Ask, Command, Commands, Asked, asked_i
 use Rattle.ua_conn.specs.client.Past.{client_known, granted_in}
 use Rattle.ua_conn.specs.client.Pending.{bytes_in, is_among, ended_ids, opened_ids}
 use Rattle.ua_conn.specs.client.Reading.{answers}
-use Rattle.ua_conn.specs.BothEnds.{IsSetup, AllAfter, Served, served_by, expected, AnswersInOrder}
+use Rattle.ua_conn.specs.BothEnds.{AllAfter, Served, served_by, expected, AnswersInOrder}
 use Rattle.ua_conn.specs.Story.{Setup}
 use Rattle.ua_conn.specs.declared.client.answer.Answer.{Answer}
 use Rattle.ua_conn.proofs.ServerEnd.NumberLemmas.{numbered_append}
@@ -41,6 +41,7 @@ use Rattle.ua_conn.proofs.BothEnds.AnswerWalkLemmas.{expected_got}
 use Rattle.ua_conn.proofs.ClientEnd.CommandLemmas.{answers_stay, new_wanted}
 use Rattle.ua_conn.proofs.BothEnds.OrderLemmas.{order_join}
 use Rattle.ua_conn.proofs.BothEnds.ServerWalkLemmas.{Took, request_took}
+use Rattle.ua_conn.proofs.BothEnds.PlainForms.{IsPlain}
 
 -- ---- tokens by their ids
 
@@ -171,7 +172,7 @@ pub record Fits (s : Setup) (cmds : Commands) (request : Request) (part : ℕ) :
 
 -- what a server makes of its frames
 pub ask_took : (s : Setup) (cmds : Commands) (request : Request) (part o n sent said : ℕ) (there here : Past) (qs : List Frame)
-    → IsSetup s → Fits s cmds request part → 1 ≤ o → o ≤ n → n ≤ o + 1 → o < 2 ^ 32 → (hold : Hold s cmds o n sent said there here)
+    → IsPlain s → Fits s cmds request part → 1 ≤ o → o ≤ n → n ≤ o + 1 → o < 2 ^ 32 → (hold : Hold s cmds o n sent said there here)
     → (let a = agreed s.site (hello_by s.asker) in let id = next_id cmds in let parts = fill id (canon_request request) part in
     AreSpoken qs (told s.site.channel o s.asker.first_sequence sent parts)
     → Took s.site there qs (at a (two_newest (tokens_in there)) (Some (number_after s.asker.first_sequence (sent + length parts - 1))) None (Some (most hold.used o)))
@@ -190,7 +191,7 @@ ask_took s cmds request part o n sent said there here qs h fit some low high sho
 
 -- its frames, and those of its answer, as told
 pub ask_keeps : (s : Setup) (cmds : Commands) (request : Request) (part now seen o n sent said : ℕ) (there here : Past) (qs ns : List Frame)
-    → IsSetup s → Fits s cmds request part → 1 ≤ o → o ≤ n → n ≤ o + 1 → o < 2 ^ 32 → seen ≤ bytes_in here → last_moment qs < 2 ^ 63 → Hold s cmds o n sent said there here
+    → IsPlain s → Fits s cmds request part → 1 ≤ o → o ≤ n → n ≤ o + 1 → o < 2 ^ 32 → seen ≤ bytes_in here → last_moment qs < 2 ^ 63 → Hold s cmds o n sent said there here
     → (let id = next_id cmds in let parts = fill id (canon_request request) part in let replied = answer_parts (agreed s.site (hello_by s.asker)) id (answer_body s.site.settings request (last_moment qs)) in
     AreSpoken qs (told s.site.channel o s.asker.first_sequence sent parts) → AreSpoken ns (told s.site.channel o 1 said replied)
     → Keeps s (record { act = Ask request part; moment = now; seen = seen } ∷ cmds) o n (sent + length parts) (said + length replied) there here qs ns)

@@ -15,7 +15,7 @@ use Rattle.ua_conn.specs.client.Reading.{client_reading_of, client_fault}
 use Rattle.ua_conn.specs.client.Sending.{Sent, sent_by}
 use Rattle.ua_conn.specs.client.Asking.{ask_fault}
 use Rattle.ua_conn.specs.Story.{Setup, World, begun, client_stream, server_stream, delivered, told_by, came_by, happens, run, final}
-use Rattle.ua_conn.specs.BothEnds.{IsSetup, IsLive, IsStep, IsSchedule}
+use Rattle.ua_conn.specs.BothEnds.{IsLive, IsStep, IsSchedule}
 use Rattle.ua_conn.specs.declared.outcome.End.{End}
 use Rattle.ua_conn.specs.declared.outcome.End.TheVariants.{Closed, InputEnded, Truncated, Refused, LinkFailed, TurnsSpent, NoMemory}
 use Rattle.ua_conn.specs.declared.schedule.Step.{Step}
@@ -23,6 +23,7 @@ use Rattle.ua_conn.specs.declared.schedule.Step.TheVariants as steps
 use Rattle.ua_conn.specs.declared.client.ask_fault.AskFault.{AskFault}
 use Rattle.ua_conn.specs.declared.client.fault.ClientFault.{ClientFault}
 use Rattle.ua_conn.proofs.ClientEnd.ReadingLemmas.{reads_more}
+use Rattle.ua_conn.proofs.ClientEnd.GreetingLemmas.{greeted_of}
 use Rattle.ua_conn.proofs.ServerEnd.StopLemmas.{reading_stays}
 use Rattle.ua_conn.proofs.BothEnds.AcceptLemmas.{come, given, IsAct, core_told}
 use Rattle.ua_conn.proofs.BothEnds.FaithfulLemmas.{IsStarted, untold, acknowledged, prefix_trans, sent_same, stands_behind, accepted_acked}
@@ -35,6 +36,7 @@ use Rattle.ua_conn.proofs.BothEnds.ReadyLemmas.{granted_go}
 use Rattle.ua_conn.proofs.BothEnds.SpokenLemmas.{BeginsSpoken}
 use Rattle.ua_conn.proofs.BothEnds.StoryBaseLemmas.{Base, base_begun, base_kept, here_of, sends, up_are, here_timely}
 use Rattle.ua_conn.proofs.BothEnds.StoryLemmas.{all_spoken}
+use Rattle.ua_conn.proofs.BothEnds.PlainForms.{IsPlain}
 
 -- ---- where a story stands
 
@@ -52,19 +54,19 @@ pub record Inv (s : Setup) (w : World) : Type 0 where
 
 -- ---- before a command
 
-pub unasked_bears : (s : Setup) → IsSetup s → (w : World) → Base s w → w.cmds ≡ [] → BearsAll s w.cmds (sends s w) w.up
+pub unasked_bears : (s : Setup) → IsPlain s → (w : World) → Base s w → w.cmds ≡ [] → BearsAll s w.cmds (sends s w) w.up
 unasked_bears s h w i e =
     let past = here_of s w in
     subst (λ cs. BearsAll s cs (sent_by s.asker cs past) w.up) (sym e) (first_bears s h past w.up (here_timely s h w i))
 
-pub unasked_calm : (s : Setup) → IsSetup s → (w : World) → Base s w → w.cmds ≡ [] → first_fault s.site w.up ≡ None
+pub unasked_calm : (s : Setup) → IsPlain s → (w : World) → Base s w → w.cmds ≡ [] → first_fault s.site w.up ≡ None
 unasked_calm s h w i e =
     let past = here_of s w in
     first_calm s h past w.up (subst (λ cs. BeginsSpoken w.up (all_spoken s.asker.first_sequence 0 (sent_by s.asker cs past))) e (up_are s h w i)) i.timely.up (here_timely s h w i)
 
 -- ---- a command
 
-stage_told : (s : Setup) → IsSetup s → (w : World) → Base s w → (act : Act) → IsAct act → ask_fault s.asker w.cmds w.down act ≡ None → Stage s w.cmds w.up w.down → Stage s (given w act ∷ w.cmds) w.up w.down
+stage_told : (s : Setup) → IsPlain s → (w : World) → Base s w → (act : Act) → IsAct act → ask_fault s.asker w.cmds w.down act ≡ None → Stage s w.cmds w.up w.down → Stage s (given w act ∷ w.cmds) w.up w.down
 stage_told s h w i act is e (unasked none) =
     let past = here_of s w in
     let f = accepted_acked s.asker w.cmds w.down act e in
@@ -98,7 +100,7 @@ refused_stops NoMemory status h = absurd (cc h)
 abbrev raised : World → List TimedByte → World
 raised w t = record w { up = w.up ++ t }
 
-stage_up : (s : Setup) → IsSetup s → (w : World) (t : List TimedByte) → Base s (raised w t) → Stage s w.cmds w.up w.down → Stage s w.cmds (w.up ++ t) w.down
+stage_up : (s : Setup) → IsPlain s → (w : World) (t : List TimedByte) → Base s (raised w t) → Stage s w.cmds w.up w.down → Stage s w.cmds (w.up ++ t) w.down
 stage_up s h w t i (unasked none) = unasked none
 stage_up s h w t i (stopped status f dead order hands) =
     let same = reading_stays s.site w.up t (Refused status) (refused_stops (end_of s.site w.up) status f) in
@@ -166,7 +168,7 @@ stage_down s w t i (going calm core) = by i.flow.started
         let a = s.asker in
         let past = here_of s w in
         let r = reads_more a w.cmds w.down t in
-        let same = sent_same a (length w.down) w.cmds r.more past f i.flow.seen (stands_behind a w.cmds w.down t r) e in
+        let same = sent_same a (length w.down) w.cmds r.more past f i.flow.seen (stands_behind a w.cmds w.down t r) (greeted_of a w.cmds w.down) e in
         let go = granted_go past r.more in
         let le : come s w ≤ length (granted_in (newest_first r.more past)) = omega (arith, ap length go.1, length-append go.0 (granted_in past)) in
         let later = core_later s w.cmds (come s w) (length (granted_in (newest_first r.more past))) (sends s w) w.up le core in
@@ -175,7 +177,7 @@ stage_down s w t i (going calm core) = by i.flow.started
 
 -- ---- every schedule
 
-told_stage : (s : Setup) → IsSetup s → (w : World) → Inv s w → (act : Act) → IsAct act → (o : Option AskFault) → ask_fault s.asker w.cmds w.down act ≡ o
+told_stage : (s : Setup) → IsPlain s → (w : World) → Inv s w → (act : Act) → IsAct act → (o : Option AskFault) → ask_fault s.asker w.cmds w.down act ≡ o
     → (let w2 = told_by w act o in Stage s w2.cmds w2.up w2.down)
 told_stage s h w i act is (Some fault) e = i.stage
 told_stage s h w i act is None e = stage_told s h w i.base act is e i.stage
@@ -184,7 +186,7 @@ came_stage : (s : Setup) (w : World) (t : List TimedByte) (o : Option ClientFaul
 came_stage s w t (Some fault) i = stage_down s w t i.base i.stage
 came_stage s w t None i = stage_down s w t i.base i.stage
 
-stage_kept : (s : Setup) → IsSetup s → (w : World) → Inv s w → (e : Step) → IsStep e → (let w2 = happens s w e in Stage s w2.cmds w2.up w2.down)
+stage_kept : (s : Setup) → IsPlain s → (w : World) → Inv s w → (e : Step) → IsStep e → (let w2 = happens s w e in Stage s w2.cmds w2.up w2.down)
 stage_kept s h w i (steps.Ask request part) is = told_stage s h w i (Ask request part) is (ask_fault s.asker w.cmds w.down (Ask request part)) refl
 stage_kept s h w i steps.Renew is = told_stage s h w i Renew tt (ask_fault s.asker w.cmds w.down Renew) refl
 stage_kept s h w i steps.Close is = told_stage s h w i Close tt (ask_fault s.asker w.cmds w.down Close) refl
@@ -194,9 +196,9 @@ stage_kept s h w i (steps.Up n) is =
 stage_kept s h w i (steps.Down n) is =
     came_stage s w (map (at (moment_of w.clock)) (take n (drop (length w.down) (server_stream s w)))) (client_fault s.asker w.cmds (delivered w.clock w.down n (server_stream s w))) i
 
-inv_run : (s : Setup) → IsSetup s → (es : List Step) (w : World) → Inv s w → IsSchedule es → Inv s (run s w es)
+inv_run : (s : Setup) → IsPlain s → (es : List Step) (w : World) → Inv s w → IsSchedule es → Inv s (run s w es)
 inv_run s h [] w i is = i
 inv_run s h (e ∷ es) w i is = inv_run s h es (happens s w e) (record { base = base_kept s h w e i.base; stage = stage_kept s h w i e is.0 }) is.1
 
-pub inv : (s : Setup) → IsSetup s → (schedule : List Step) → IsSchedule schedule → Inv s (final s schedule)
+pub inv : (s : Setup) → IsPlain s → (schedule : List Step) → IsSchedule schedule → Inv s (final s schedule)
 inv s h schedule is = inv_run s h schedule (begun s) (record { base = base_begun s h; stage = unasked refl }) is

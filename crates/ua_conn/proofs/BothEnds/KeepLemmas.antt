@@ -24,7 +24,7 @@ use Rattle.ua_conn.specs.client.Commands.{Renew, Close, Command, Commands, OpenA
 use Rattle.ua_conn.specs.client.Past.{granted_in}
 use Rattle.ua_conn.specs.client.Pending.{bytes_in, is_among, ended_ids, opened_ids}
 use Rattle.ua_conn.specs.client.Reading.{answers}
-use Rattle.ua_conn.specs.BothEnds.{IsSetup, served_by, AnswersInOrder}
+use Rattle.ua_conn.specs.BothEnds.{served_by, AnswersInOrder}
 use Rattle.ua_conn.specs.Story.{Setup}
 use Rattle.ua_conn.proofs.ServerEnd.NumberLemmas.{numbered_append}
 use Rattle.ua_conn.proofs.ServerEnd.KnownLemmas.{newest, take_twice}
@@ -39,6 +39,7 @@ use Rattle.ua_conn.proofs.BothEnds.OpeningWalkLemmas.{token_here, renewal_got}
 use Rattle.ua_conn.proofs.ClientEnd.CommandLemmas.{answers_stay, new_due}
 use Rattle.ua_conn.proofs.BothEnds.ServerWalkLemmas.{Took, taken_took, open_any, more_tokens, close_took}
 use Rattle.ua_conn.proofs.BothEnds.HoldLemmas.{ids_of, some_two, names_known, most_is, Hold, Keeps, tokens_count}
+use Rattle.ua_conn.proofs.BothEnds.PlainForms.{IsPlain}
 
 -- ---- open requests that are answered
 
@@ -69,7 +70,7 @@ newest_counted site past n many =
     newest site opens ∙ omega (arith, tokens_count opens, many)
 
 -- what a server makes of it
-pub renew_took : (s : Setup) (cmds : Commands) (now o n sent said : ℕ) (there here : Past) (q : Frame) → IsSetup s → 1 ≤ n → n + 1 < 2 ^ 32 → next_id cmds < 2 ^ 32 → now < 2 ^ 63 → (hold : Hold s cmds o n sent said there here)
+pub renew_took : (s : Setup) (cmds : Commands) (now o n sent said : ℕ) (there here : Past) (q : Frame) → IsPlain s → 1 ≤ n → n + 1 < 2 ^ 32 → next_id cmds < 2 ^ 32 → now < 2 ^ 63 → (hold : Hold s cmds o n sent said there here)
     → (let a = agreed s.site (hello_by s.asker) in let id = next_id cmds in let tokens = two_newest (tokens_in there) in let token = next_token tokens q.moment s.asker.config.lifetime in
     let number = number_after s.asker.first_sequence sent in
     q.bytes ≡ spell (Opens s.site.channel number id (open_body now id 1 s.asker.config.lifetime))
@@ -96,7 +97,7 @@ renew_took s cmds now o n sent said there here q h some few unspent clock hold a
     (more_tokens s.site q there s.site.channel number id body request read reads)
 
 pub renew_keeps : (s : Setup) (cmds : Commands) (now seen o n sent said : ℕ) (there here : Past) (q x : Frame)
-    → IsSetup s → 1 ≤ n → n + 1 < 2 ^ 32 → next_id cmds < 2 ^ 32 → now < 2 ^ 63 → q.moment < 2 ^ 63 → seen ≤ bytes_in here → Hold s cmds o n sent said there here
+    → IsPlain s → 1 ≤ n → n + 1 < 2 ^ 32 → next_id cmds < 2 ^ 32 → now < 2 ^ 63 → q.moment < 2 ^ 63 → seen ≤ bytes_in here → Hold s cmds o n sent said there here
     → (let id = next_id cmds in let token = next_token (two_newest (tokens_in there)) q.moment s.asker.config.lifetime in
     q.bytes ≡ spell (Opens s.site.channel (number_after s.asker.first_sequence sent) id (open_body now id 1 s.asker.config.lifetime))
     → x.bytes ≡ spell (Opens s.site.channel (number_after 1 said) id (opened_body id q.moment s.site.channel token))
@@ -150,7 +151,7 @@ renew_keeps s cmds now seen o n sent said there here q x h some few unspent cloc
 -- ---- a close
 
 pub close_keeps : (s : Setup) (cmds : Commands) (now seen o n sent said : ℕ) (there here : Past) (q : Frame)
-    → IsSetup s → 1 ≤ o → o ≤ n → n ≤ o + 1 → o < 2 ^ 32 → next_id cmds < 2 ^ 32 → now < 2 ^ 63 → Hold s cmds o n sent said there here
+    → IsPlain s → 1 ≤ o → o ≤ n → n ≤ o + 1 → o < 2 ^ 32 → next_id cmds < 2 ^ 32 → now < 2 ^ 63 → Hold s cmds o n sent said there here
     → q.bytes ≡ spell (Closes s.site.channel o (number_after s.asker.first_sequence sent) (next_id cmds) (close_body now (next_id cmds)))
     → Keeps s (record { act = Close; moment = now; seen = seen } ∷ cmds) o n (sent + 1) said there here (q ∷ []) []
 close_keeps s cmds now seen o n sent said there here q h some low high short unspent clock hold asked =

@@ -1,5 +1,5 @@
 -- Frames of both ends as bytes, and what it is to accept one but for the age of its token.
-use Rattle.std.proofs.Common.{◌≡◌, ℕ, List, [], ◌∷◌, ◌++◌, map, None, refl, ap}
+use Rattle.std.proofs.Common.{◌≡◌, ℕ, false, List, [], ◌∷◌, ◌++◌, map, None, refl, ap}
 use Rattle.std.specs.List.{flat_map}
 use Rattle.ua_frame.specs.Layout.{Frame}
 use Rattle.ua_chunk.specs.Numbers.{number_after}
@@ -48,4 +48,4 @@ abbrev pub Accepts : Asker → Commands → Past → Frame → Type 0
 Accepts a cmds past f =
     let k = client_known past in
     let end = bytes_in (f ∷ past) in
-    client_fault_by a k (due_at cmds past end) (wanted_at cmds past end (carried f).request_id) (is_known k.tokens (carried f).token) f ≡ None
+    client_fault_by a false k (due_at cmds past end) (wanted_at cmds past end (carried f).request_id) (is_known k.tokens (carried f).token) f ≡ None

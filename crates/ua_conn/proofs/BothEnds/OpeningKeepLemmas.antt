@@ -19,7 +19,7 @@ use Rattle.ua_conn.specs.client.Commands.{opens_asked}
 use Rattle.ua_conn.specs.client.Pending.{is_among}
 use Rattle.ua_conn.specs.client.Questions.{open_asked_body, close_asked_body}
 use Rattle.ua_conn.specs.client.Sending.{Sent, Asking, more_sent}
-use Rattle.ua_conn.specs.BothEnds.{IsAsker, IsSetup, served_by, AnswersInOrder}
+use Rattle.ua_conn.specs.BothEnds.{IsAsker, served_by, AnswersInOrder}
 use Rattle.ua_conn.specs.Story.{Setup}
 use Rattle.ua_conn.proofs.ClientEnd.FreshLemmas.{unlike}
 use Rattle.ua_conn.proofs.BothEnds.SpokenLemmas.{Spoken, Greets, Acknowledges, Opens, Tells, spell, is_read, spelled_list}
@@ -34,6 +34,7 @@ use Rattle.ua_conn.proofs.BothEnds.SpokenTableLemmas.{hears}
 use Rattle.ua_conn.proofs.BothEnds.OpeningWalkLemmas.{opening_got}
 use Rattle.ua_conn.proofs.BothEnds.ServerWalkLemmas.{taken_took, took_more, hello_any, open_any, same_tokens, more_tokens}
 use Rattle.ua_conn.proofs.BothEnds.HoldLemmas.{ids_of, Keeps}
+use Rattle.ua_conn.proofs.BothEnds.PlainForms.{IsPlain}
 
 -- a client that is asked for is one that the server's walk takes
 pub client_of : (a : Asker) → IsAsker a → IsClient a.config.buffer a.config.max_message a.config.max_chunks a.config.lifetime a.first_sequence a.url
@@ -52,7 +53,7 @@ client_of a h = record {
 
 -- ---- the opening
 
-pub opening_keeps : (s : Setup) (o now : ℕ) (f g x y : Frame) → IsSetup s → now < 2 ^ 63 → g.moment < 2 ^ 63
+pub opening_keeps : (s : Setup) (o now : ℕ) (f g x y : Frame) → IsPlain s → now < 2 ^ 63 → g.moment < 2 ^ 63
     → (let lifetime = s.asker.config.lifetime in
     f.bytes ≡ spell (Greets (hello_by s.asker)) → g.bytes ≡ spell (Opens 0 (number_after s.asker.first_sequence 0) 1 (open_body now 1 0 lifetime))
     → x.bytes ≡ spell (Acknowledges (negotiated s.site.settings.limits (hello_by s.asker))) → y.bytes ≡ spell (Opens s.site.channel (number_after 1 0) 1 (opened_body 1 g.moment s.site.channel (next_token [] g.moment lifetime)))

@@ -26,7 +26,6 @@ use Rattle.ua_conn.specs.client.Pending.{bytes_in, is_among, ends_one, opening_i
 use Rattle.ua_conn.specs.client.Faults.{client_fault_by}
 use Rattle.ua_conn.specs.client.Machine.{client_known_after, or_ack}
 use Rattle.ua_conn.specs.client.Reading.{answer_at, answers, result_by, answer_with}
-use Rattle.ua_conn.specs.BothEnds.{IsSetup}
 use Rattle.ua_conn.specs.Story.{Setup}
 use Rattle.ua_conn.proofs.ServerEnd.LengthLemmas.{opened_length}
 use Rattle.ua_conn.proofs.ClientEnd.KnownLemmas.{client_known_step}
@@ -34,6 +33,7 @@ use Rattle.ua_conn.proofs.BothEnds.SpokenLemmas.{Acknowledges, Opens, spell, len
 use Rattle.ua_conn.proofs.BothEnds.SpokenAnswerLemmas.{opened_read, agreed_value}
 use Rattle.ua_conn.proofs.BothEnds.SpokenTableLemmas.{unacknowledged, hears, acknowledge_heard, opened_heard}
 use Rattle.ua_conn.proofs.BothEnds.ClientWalkLemmas.{Stands, Got, got_more, ended_more, opened_more, granted_more}
+use Rattle.ua_conn.proofs.BothEnds.PlainForms.{IsPlain}
 
 -- ---- the Acknowledge
 
@@ -67,7 +67,7 @@ acknowledge_got a cmds ack f e is p q r s =
     let other : is_open (kind_of f.bytes) ≡ false = ap is_open read.kind in
     let one : ends_one f ≡ false = (λ i. is_message (read.kind i) && ends_message (read.flag i)) in
     record {
-      taken = ((λ i. client_fault_by a (at.known i) due wanted (is_known (client_known []).tokens (carried f).token) f) ∙ acknowledge_heard a due wanted (is_known (client_known []).tokens (carried f).token) ack f e is p q r s, tt);
+      taken = ((λ i. client_fault_by a false (at.known i) due wanted (is_known (client_known []).tokens (carried f).token) f) ∙ acknowledge_heard a due wanted (is_known (client_known []).tokens (carried f).token) ack f e is p q r s, tt);
       answered = none_answered (client_known []) wanted f (ap is_message read.kind);
       stands = record {
         known = client_known_step f [] ∙ ap (λ (x : ClientKnown). client_known_after x f) at.known ∙ acknowledge_known ack f read;
@@ -115,7 +115,7 @@ opened_got a cmds past ack before channel tokens last number id body r f place e
     let one : ends_one f ≡ false = (λ j. is_message (read.kind j) && ends_message (read.flag j)) in
     let grants : granted_by (response_in f) f.moment ≡ granted r f.moment = (λ j. granted_by (open_response_of (body_of (read.says j))) f.moment) ∙ (λ j. granted_by (is j) f.moment) in
     record {
-      taken = ((λ j. client_fault_by a (at.known j) (due j) wanted usable f) ∙ opened_heard a ack before channel tokens last wanted usable number id body r f e short room c n i own follow is good same, tt);
+      taken = ((λ j. client_fault_by a false (at.known j) (due j) wanted usable f) ∙ opened_heard a ack before channel tokens last wanted usable number id body r f e short room c n i own follow is good same, tt);
       answered = ap (λ l. answers cmds past ++ l) (none_answered (client_known past) wanted f (ap is_message read.kind)) ∙ append-nil (answers cmds past) ∙ sym (append-nil (answers cmds past));
       stands = record {
         known = client_known_step f past ∙ ap (λ (k : ClientKnown). client_known_after k f) at.known ∙ opened_known ack before tokens last channel number id body r f read is;
@@ -167,7 +167,7 @@ first_due cmds past end none some =
     ∙ ap (λ b. first_id (cond b (one ∷ rest) rest)) here
 
 -- The Acknowledge and the first open response: the channel is open at the client, with one token.
-pub opening_got : (s : Setup) (cmds : Commands) (now : ℕ) (token : Token) (f g : Frame) → IsSetup s → now < 2 ^ 63 → token.id < 2 ^ 32 → token.lifetime < 2 ^ 32
+pub opening_got : (s : Setup) (cmds : Commands) (now : ℕ) (token : Token) (f g : Frame) → IsPlain s → now < 2 ^ 63 → token.id < 2 ^ 32 → token.lifetime < 2 ^ 32
     → f.bytes ≡ spell (Acknowledges (negotiated s.site.settings.limits (hello_by s.asker))) → g.bytes ≡ spell (Opens s.site.channel (number_after 1 0) 1 (opened_body 1 now s.site.channel token))
     → (let ack = negotiated s.site.settings.limits (hello_by s.asker) in let own = token_here token g.moment in
     Got s.asker cmds [] (f ∷ g ∷ []) (hears ack s.site.channel (own ∷ []) (Some (number_after 1 0)) None) [] [] (1 ∷ []) (own ∷ []))
@@ -186,7 +186,7 @@ opening_got s cmds now token f g h clock t l e d =
 
 -- The open response to a renewal that is due: one token more.
 pub renewal_got : (s : Setup) (cmds : Commands) (past : Past) (tokens : List Token) (last : Option ℕ) (now number id : ℕ) (token : Token) (f : Frame) (place : ℕ) (ends opens : List ℕ) (all : List Token)
-    → IsSetup s → now < 2 ^ 63 → number < 2 ^ 32 → id < 2 ^ 32 → token.id < 2 ^ 32 → token.lifetime < 2 ^ 32 → follows_last last number ≡ true
+    → IsPlain s → now < 2 ^ 63 → number < 2 ^ 32 → id < 2 ^ 32 → token.id < 2 ^ 32 → token.lifetime < 2 ^ 32 → follows_last last number ≡ true
     → f.bytes ≡ spell (Opens s.site.channel number id (opened_body id now s.site.channel token))
     → (let ack = negotiated s.site.settings.limits (hello_by s.asker) in let own = token_here token f.moment in
     Stands past (hears ack s.site.channel tokens last None) ends opens all → place ≤ bytes_in past → Due cmds opens place id

@@ -78,6 +78,7 @@ is_setup = record {
   site = record { settings = settings_are; channel = omega arith; channel_most = omega arith };
   asker = record { config = is_config; url = refl; text = text (codes "opc.tcp://localhost:4840") (omega arith) refl; first_least = omega arith; first_most = omega arith };
   start = omega arith;
+  opens = λ e. absurd (cc e);
 }
 
 is_schedule : IsSchedule (opening_steps ++ steps_of_one)

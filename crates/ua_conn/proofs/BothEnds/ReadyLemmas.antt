@@ -108,7 +108,7 @@ channel_stays a cmds past f h some = by (is_open (kind_of f.bytes)) refl
     usable = is_known k.tokens (carried f).token
 
     opened : is_open (kind_of f.bytes) ≡ true → AllNo (opened_rows k due (open_in f))
-    opened m = (all_no (client_rows a k due wanted usable f (flag_of f.bytes) (Some kinds.Open)) (rows_of_kind a k due wanted usable f (Some kinds.Open) h (is_open_tells (kind_of f.bytes) m))).1
+    opened m = (all_no (client_rows a false k due wanted usable f (flag_of f.bytes) (Some kinds.Open)) (rows_of_kind a false k due wanted usable f (Some kinds.Open) h (is_open_tells (kind_of f.bytes) m))).1
 
     some_tokens : (length k.tokens == 0) ≡ false
     some_tokens = ap (λ (ts : List Token). length ts == 0) (client_tokens past) ∙ unopened_none (granted_in past) some

@@ -38,12 +38,12 @@ use Rattle.ua_conn.proofs.BothEnds.SpokenTurnLemmas.{text_same}
 
 -- The whole table of a client, at a frame that is no greater than what it takes: the rows of the value's type and flag.
 pub heard_fault : (a : Asker) (k : ClientKnown) (due : Option ℕ) (wanted : Option Request) (usable : Bool) (f : Frame) (x : Spoken) → f.bytes ≡ spell x → IsSized x → IsFlagged x → IsProper x → size_by x ≤ greatest_answer k.ack
-    → client_fault_by a k due wanted usable f ≡ first_row (client_rows a k due wanted usable f (parts_of x).flag (Some (parts_of x).kind))
+    → client_fault_by a false k due wanted usable f ≡ first_row (client_rows a false k due wanted usable f (parts_of x).flag (Some (parts_of x).kind))
 unfolding client_fault_by
 heard_fault a k due wanted usable f x e short flag is within =
     let head : header_fault (greatest_answer k.ack) f.bytes ≡ None = ap (header_fault (greatest_answer k.ack)) e ∙ spell_passes (greatest_answer k.ack) x short flag within in
     let read = is_read f x e short is in
-    λ i. or_else (option_map Broken (head i)) (first_row (client_rows a k due wanted usable f (read.flag i) (read.kind i)))
+    λ i. or_else (option_map Broken (head i)) (first_row (client_rows a false k due wanted usable f (read.flag i) (read.kind i)))
 
 -- ---- an ACK
 
@@ -59,7 +59,7 @@ sizes_fit a ack p q r s =
     λ i. (one i && two i) && (three i && four i)
 
 pub acknowledge_heard : (a : Asker) (due : Option ℕ) (wanted : Option Request) (usable : Bool) (ack : Ack) (f : Frame) → f.bytes ≡ spell (Acknowledges ack) → acknowledge_layout.IsValue ack
-    → 8192 ≤ ack.receive → ack.receive ≤ a.config.buffer → 8192 ≤ ack.send → ack.send ≤ a.config.buffer → client_fault_by a unacknowledged due wanted usable f ≡ None
+    → 8192 ≤ ack.receive → ack.receive ≤ a.config.buffer → 8192 ≤ ack.send → ack.send ≤ a.config.buffer → client_fault_by a false unacknowledged due wanted usable f ≡ None
 acknowledge_heard a due wanted usable ack f e is p q r s =
     let x = Acknowledges ack in
     let read : acknowledge_in f ≡ Some ack = (is_read f x e tt is).says in
@@ -82,19 +82,19 @@ pub opened_heard : (a : Asker) (ack : Ack) (known channel : ℕ) (tokens : List 
     → f.bytes ≡ spell (Opens channel number id body) → length body ≤ 8113 → 8192 ≤ ack.send → channel < 2 ^ 32 → number < 2 ^ 32 → id < 2 ^ 32
     → names_other (client_channel (hears ack known tokens last None)) channel ≡ false → follows_last last number ≡ true
     → open_response_of body ≡ Some r → nat_le 0x80000000 r.header.service_result.0 ≡ false → r.channel_id ≡ channel
-    → client_fault_by a (hears ack known tokens last None) (Some id) wanted usable f ≡ None
+    → client_fault_by a false (hears ack known tokens last None) (Some id) wanted usable f ≡ None
 opened_heard a ack known channel tokens last wanted usable number id body r f e short room c n i own follow is good same =
     let k = hears ack known tokens last None in
     let x = Opens channel number id body in
     let sized : 79 + length body < 2 ^ 32 = omega (arith, short) in
     let read : open_in f ≡ Some (opening_of channel number id body) = (is_read f x e sized (c, n, i)).says in
-    let awaited : is_awaited k (Some id) (Some kinds.Open) ≡ true = either (length tokens == 0) in
+    let awaited : is_awaited false k (Some id) (Some kinds.Open) ≡ true = either (length tokens == 0) in
     let text = text_same policy_none in
     let asked : (id == id) ≡ true = eq-eqb id id refl in
     let named : (r.channel_id == channel) ≡ true = eq-eqb r.channel_id channel same in
     heard_fault a k (Some id) wanted usable f x e sized refl (c, n, i) (omega (arith, short, room))
-    ∙ ap (λ o. cond (not (is_awaited k (Some id) (Some kinds.Open))) (Some (Broken 0x807E0000)) (first_row (opened_rows k (Some id) o))) read
-    ∙ ap (λ o. cond (not (is_awaited k (Some id) (Some kinds.Open))) (Some (Broken 0x807E0000)) (cond (names_other (client_channel k) channel) (Some (Broken 0x807F0000))
+    ∙ ap (λ o. cond (not (is_awaited false k (Some id) (Some kinds.Open))) (Some (Broken 0x807E0000)) (first_row (opened_rows k (Some id) o))) read
+    ∙ ap (λ o. cond (not (is_awaited false k (Some id) (Some kinds.Open))) (Some (Broken 0x807E0000)) (cond (names_other (client_channel k) channel) (Some (Broken 0x807F0000))
     (cond (not (is_text policy_none (Some policy_none))) (Some (Broken 0x80550000)) (cond (not (follows_last last number)) (Some (Broken 0x80880000)) (cond (not (id == id)) (Some (Broken 0x80090000)) (first_row (response_rows channel o))))))) is
     ∙ (λ j. cond (not (awaited j)) (Some (Broken 0x807E0000)) (cond (own j) (Some (Broken 0x807F0000)) (cond (not (text j)) (Some (Broken 0x80550000)) (cond (not (follow j)) (Some (Broken 0x80880000))
     (cond (not (asked j)) (Some (Broken 0x80090000)) (cond (good j) (Some (ServerSaid r.header.service_result.0 None)) (cond (not (named j)) (Some (Broken 0x807F0000)) None)))))))
@@ -121,19 +121,19 @@ pub part_heard : (a : Asker) (ack : Ack) (channel : ℕ) (tokens : List Token) (
     → channel < 2 ^ 32 → token < 2 ^ 32 → number < 2 ^ 32 → p.id < 2 ^ 32 → 0 < length tokens → follows_last last number ≡ true
     → NoPartRow a.config.max_message a.config.max_chunks half p.flag p.id p.bytes
     → first_row (broken (last_rows (Some request) p.flag (response_of (body_of half ++ p.bytes)))) ≡ None
-    → client_fault_by a (hears ack channel tokens last half) due (Some request) true f ≡ None
+    → client_fault_by a false (hears ack channel tokens last half) due (Some request) true f ≡ None
 part_heard a ack channel tokens last half due request token number p f e flag within fits ch t n i some follow rows whole =
     let k = hears ack channel tokens last half in
     let x = Tells channel token number p in
     let c = chunk_by channel token number p.id p.bytes in
     let sized : 24 + length p.bytes < 2 ^ 32 = omega (arith, within, fits) in
     let read : chunk_of (fields_of f.bytes) ≡ Some c = (is_read f x e sized (ch, t, n, i)).says in
-    let awaited : is_awaited k due (Some kinds.Message) ≡ true = ap (λ b. cond b false true) (some_tokens tokens some) in
+    let awaited : is_awaited false k due (Some kinds.Message) ≡ true = ap (λ b. cond b false true) (some_tokens tokens some) in
     let own : (channel == channel) ≡ true = eq-eqb channel channel refl in
     let admits : first_row (broken ((is_none (Some c), 0x80070000) ∷ admit_rows_by (client_channel k) c true)) ≡ None =
     λ j. cond (not (own j)) (Some (Broken 0x807F0000)) (cond (not (follow j)) (Some (Broken 0x80880000)) None) in
     heard_fault a k due (Some request) true f x e sized flag (ch, t, n, i) within
-    ∙ ap (λ o. cond (not (is_awaited k due (Some kinds.Message))) (Some (Broken 0x807E0000)) (first_row (broken (((is_none o, 0x80070000) ∷ admit_rows_by (client_channel k) (or_empty o) true) ++ answer_rows a k (Some request) p.flag (or_empty o))))) read
+    ∙ ap (λ o. cond (not (is_awaited false k due (Some kinds.Message))) (Some (Broken 0x807E0000)) (first_row (broken (((is_none o, 0x80070000) ∷ admit_rows_by (client_channel k) (or_empty o) true) ++ answer_rows a k (Some request) p.flag (or_empty o))))) read
     ∙ ap (λ b. cond (not b) (Some (Broken 0x807E0000)) (first_row (broken (((is_none (Some c), 0x80070000) ∷ admit_rows_by (client_channel k) c true) ++ answer_rows a k (Some request) p.flag c)))) awaited
     ∙ broken_none ((is_none (Some c), 0x80070000) ∷ admit_rows_by (client_channel k) c true) (answer_rows a k (Some request) p.flag c) admits (answers_none a k request p.flag c rows whole)
 

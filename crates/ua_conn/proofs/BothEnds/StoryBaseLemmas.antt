@@ -2,7 +2,7 @@
 use mathlib.Core.List.{IsPrefix}
 use Rattle.std.proofs.Common.{◌≡◌, ℕ, ◌<◌, ◌^◌, false, List, [], ◌∷◌, ◌++◌, map, take, drop, length, Option, Some, None, refl, sym, ◌∙◌, subst, arith, lit<, ◌⊎◌, inl, inr}
 use Rattle.std.specs.Prelude.{ℤ, pos, negsuc, ◌+ℤ◌}
-use Rattle.ua_frame.specs.Streams.{TimedByte, at, moment_of}
+use Rattle.ua_frame.specs.Streams.{TimedByte, at, moment_of, plain}
 use Rattle.ua_frame.specs.Beginnings.{AreMoments, moments_are}
 use Rattle.ua_conn.specs.Past.{Past}
 use Rattle.ua_conn.specs.client.Commands.{Act, Ask, Renew, Close, Commands, is_closed}
@@ -10,7 +10,6 @@ use Rattle.ua_conn.specs.client.Reading.{client_reading_of, client_fault}
 use Rattle.ua_conn.specs.client.Sending.{Sent, sent_by}
 use Rattle.ua_conn.specs.client.Asking.{ask_fault}
 use Rattle.ua_conn.specs.Story.{Setup, World, begun, client_stream, server_stream, delivered, ticked, told_by, came_by, happens}
-use Rattle.ua_conn.specs.BothEnds.{IsSetup}
 use Rattle.ua_conn.specs.declared.schedule.Step.{Step}
 use Rattle.ua_conn.specs.declared.schedule.Step.TheVariants as steps
 use Rattle.ua_conn.specs.declared.client.ask_fault.AskFault.{AskFault}
@@ -23,6 +22,7 @@ use Rattle.ua_conn.proofs.BothEnds.ScheduleLemmas.{Asks, asks_begun, asks_kept}
 use Rattle.ua_conn.proofs.BothEnds.SpokenLemmas.{BeginsSpoken}
 use Rattle.ua_conn.proofs.BothEnds.StoryLemmas.{AreCut, cut_kept, all_spoken, up_begins}
 use Rattle.ua_conn.proofs.BothEnds.WayLemmas.{Standing, standing}
+use Rattle.ua_conn.proofs.BothEnds.PlainForms.{IsPlain, plain_down}
 
 -- ---- moments
 
@@ -39,7 +39,7 @@ moments_at : (now : ℕ) (bytes : List ℕ) → now < 2 ^ 63 → AreMoments (λ 
 moments_at now [] h = tt
 moments_at now (b ∷ bytes) h = (h, moments_at now bytes h)
 
-ticked_timely : (z : ℤ) → moment_of (ticked z) < 2 ^ 63
+pub ticked_timely : (z : ℤ) → moment_of (ticked z) < 2 ^ 63
 ticked_timely (pos n) = omega arith
 ticked_timely (negsuc n) = lit< tt
 
@@ -106,7 +106,7 @@ pub record Base (s : Setup) (w : World) : Type 0 where
   pub timely : AreTimely w
   pub settles : Settles s w
 
-pub base_begun : (s : Setup) → IsSetup s → Base s (begun s)
+pub base_begun : (s : Setup) → IsPlain s → Base s (begun s)
 base_begun s h = record {
   flow = flow s [];
   asks = asks_begun s;
@@ -115,7 +115,7 @@ base_begun s h = record {
   settles = record { settled = inl refl; front = prefix_self []; last = tt };
 }
 
-pub base_kept : (s : Setup) → IsSetup s → (w : World) (e : Step) → Base s w → Base s (happens s w e)
+pub base_kept : (s : Setup) → IsPlain s → (w : World) (e : Step) → Base s w → Base s (happens s w e)
 base_kept s h w e i = record {
   flow = flow_kept s w i.flow e;
   asks = asks_kept s w i.asks e;
@@ -133,13 +133,13 @@ here_of s w = (client_reading_of s.asker w.cmds w.down).past
 abbrev pub sends : Setup → World → List Sent
 sends s w = sent_by s.asker w.cmds (here_of s w)
 
-pub up_are : (s : Setup) → IsSetup s → (w : World) → Base s w → BeginsSpoken w.up (all_spoken s.asker.first_sequence 0 (sends s w))
-up_are s h w i = up_begins s w i.flow.up h.asker.url i.cut
+pub up_are : (s : Setup) → IsPlain s → (w : World) → Base s w → BeginsSpoken w.up (all_spoken s.asker.first_sequence 0 (sends s w))
+up_are s h w i = up_begins s w i.flow.up h.plain h.asker.url i.cut
 
-pub standing_of : (s : Setup) → IsSetup s → (w : World) → Base s w → Standing s w.cmds w.up w.down
-standing_of s h w i = standing s w.cmds w.up w.down h i.flow.down
+pub standing_of : (s : Setup) → IsPlain s → (w : World) → Base s w → Standing s w.cmds w.up w.down
+standing_of s h w i = standing s w.cmds w.up w.down h (plain_down s h w (plain w.down) i.flow.down)
 
-pub here_timely : (s : Setup) → IsSetup s → (w : World) → Base s w → IsAckTimely (here_of s w)
+pub here_timely : (s : Setup) → IsPlain s → (w : World) → Base s w → IsAckTimely (here_of s w)
 here_timely s h w i =
     let st = standing_of s h w i in
     let all : Timely (st.frames ++ st.first.0) = subst Timely (sym st.first.1) (moments_are (λ m. m < 2 ^ 63) w.down i.timely.down) in

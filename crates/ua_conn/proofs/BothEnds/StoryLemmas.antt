@@ -1,6 +1,6 @@
 -- What was delivered each way in a story, as frames: the first of what was sent, and less than the next.
 use mathlib.Core.List.{IsPrefix}
-use Rattle.std.proofs.Common.{◌≡◌, ℕ, ◌+◌, ◌<◌, ◌≤◌, ◌^◌, Bool, true, false, not, is_some, List, [], ◌∷◌, ◌++◌, map, length, Option, Some, None, refl, sym, ap, subst, ◌∙◌, arith}
+use Rattle.std.proofs.Common.{◌≡◌, ℕ, ◌+◌, ◌<◌, ◌≤◌, ◌^◌, Bool, true, false, cond, not, is_some, List, [], ◌∷◌, ◌++◌, map, length, Option, Some, None, refl, sym, ap, subst, ◌∙◌, arith}
 use Rattle.std.specs.List.{AllByRecursion}
 use Rattle.std.specs.Prelude.{◌==◌, nat_le, nat_lt, IfSome, option_map}
 use Rattle.std.proofs.lemmas.Bool.{and_parts, leb-true, ltb-false, not-false, or_parts}
@@ -11,7 +11,7 @@ use Rattle.ua_frame.specs.HeaderRows.{header_fault}
 use Rattle.ua_frame.specs.declared.kind.Kind.TheVariants as kinds
 use Rattle.ua_frame.specs.declared.acknowledge.Ack.{Ack}
 use Rattle.ua_conn.specs.Past.{carried, Past}
-use Rattle.ua_conn.specs.client.Past.{is_acknowledge, is_acknowledge_frame, acknowledge_in, ClientKnown, client_known, acknowledge_frame_in}
+use Rattle.ua_conn.specs.client.Past.{is_acknowledge, is_acknowledge_frame, acknowledge_in, ClientKnown, client_known, acknowledge_frame_in, reverse_frame_in, awaits_reverse}
 use Rattle.ua_conn.specs.client.Machine.{or_ack, client_known_after}
 use Rattle.ua_conn.specs.client.Faults.{broken, greatest_answer, is_awaited, acknowledge_rows, client_rows, client_fault_by, token_usable}
 use Rattle.ua_conn.specs.client.Reading.{client_fault_at, client_reading, client_fault, client_reading_of}
@@ -36,7 +36,7 @@ use Rattle.ua_channel.specs.Token.{newest_id}
 use Rattle.ua_service.specs.Requests.{canon_request}
 use Rattle.ua_conn.specs.client.Asker.{Asker, hello_by}
 use Rattle.ua_conn.specs.client.Commands.{Act, Ask, Renew, Close, Command, Commands, next_id}
-use Rattle.ua_conn.specs.client.Sending.{Sent, Greeting, Opening, Asking, Closing, sent_bytes, more_sent, sent_all, opens_by, act_says, commands_say, sent_by, client_sent}
+use Rattle.ua_conn.specs.client.Sending.{Sent, Greeting, Opening, Asking, Closing, sent_bytes, more_sent, sent_all, greets_by, greets, opens_by, act_says, commands_say, sent_by, client_sent}
 use Rattle.ua_conn.specs.declared.schedule.Step.{Step}
 use Rattle.ua_conn.proofs.ClientEnd.QuestionLemmas.{open_length, close_length}
 use Rattle.ua_conn.proofs.BothEnds.SpokenLemmas.{Spoken, Greets, Opens, Tells, Closes, spell, AreSized, spelled_list, BeginsSpoken, begins_spoken}
@@ -114,18 +114,23 @@ opens_sized : (a : Asker) (o : Option Frame) → HaveSizes (opens_by a o)
 opens_sized a None = tt
 opens_sized a (Some f) = (omega (arith, open_length f.moment 1 0 a.config.lifetime), tt)
 
-pub sent_sized : (a : Asker) (cmds : Commands) (past : Past) → is_long a.url ≡ false → AreCut cmds → HaveSizes (sent_by a cmds past)
-sent_sized a cmds past url cut =
-    (url, sizes_both (opens_by a (acknowledge_frame_in past)) (commands_say a cmds past) (opens_sized a (acknowledge_frame_in past)) (commands_sized a cmds past cut))
+greets_sized : (a : Asker) (b : Bool) (o : Option Frame) → b ≡ false → is_long a.url ≡ false → HaveSizes (cond b (greets_by a o) (Greeting (hello_by a) ∷ []))
+greets_sized a true o plain url = absurd (cc plain)
+greets_sized a false o plain url = (url, tt)
+
+pub sent_sized : (a : Asker) (cmds : Commands) (past : Past) → a.reverse ≡ false → is_long a.url ≡ false → AreCut cmds → HaveSizes (sent_by a cmds past)
+sent_sized a cmds past plain url cut =
+    sizes_both (greets a past) (opens_by a (acknowledge_frame_in past) ++ commands_say a cmds past) (greets_sized a a.reverse (reverse_frame_in past) plain url)
+    (sizes_both (opens_by a (acknowledge_frame_in past)) (commands_say a cmds past) (opens_sized a (acknowledge_frame_in past)) (commands_sized a cmds past cut))
 
 -- ---- each way
 
 -- What was delivered to the server: the first frames that the client sends, and less than the next.
-pub up_begins : (s : Setup) (w : World) → IsPrefix (plain w.up) (client_stream s w) → is_long s.asker.url ≡ false → AreCut w.cmds
+pub up_begins : (s : Setup) (w : World) → IsPrefix (plain w.up) (client_stream s w) → s.asker.reverse ≡ false → is_long s.asker.url ≡ false → AreCut w.cmds
     → BeginsSpoken w.up (all_spoken s.asker.first_sequence 0 (client_sent s.asker w.cmds w.down))
-up_begins s w p url cut =
+up_begins s w p own url cut =
     let xs = client_sent s.asker w.cmds w.down in
-    begins_spoken (all_spoken s.asker.first_sequence 0 xs) w.up p.0 (all_sized s.asker.first_sequence 0 xs (sent_sized s.asker w.cmds (client_reading_of s.asker w.cmds w.down).past url cut))
+    begins_spoken (all_spoken s.asker.first_sequence 0 xs) w.up p.0 (all_sized s.asker.first_sequence 0 xs (sent_sized s.asker w.cmds (client_reading_of s.asker w.cmds w.down).past own url cut))
     (p.1 ∙ all_spelled s.asker.first_sequence 0 xs)
 
 -- ---- the parts of every request fit
@@ -154,15 +159,16 @@ step_within : (a : Asker) (cmds : Commands) (past : Past) (f : Frame) → client
 unfolding Within client_fault_by
 step_within a cmds past f h w =
     let k = client_known past in
+    let first = awaits_reverse a.reverse past in
     let end = bytes_in (f ∷ past) in
     let due = due_at cmds past end in
     let wanted = wanted_at cmds past end (carried f).request_id in
     let usable = token_usable k f in
-    let rows = or_none (option_map Broken (header_fault (greatest_answer k.ack) f.bytes)) (first_row (client_rows a k due wanted usable f (flag_of f.bytes) (kind_of f.bytes))) h in
+    let rows = or_none (option_map Broken (header_fault (greatest_answer k.ack) f.bytes)) (first_row (client_rows a first k due wanted usable f (flag_of f.bytes) (kind_of f.bytes))) h in
     let new : is_acknowledge_frame f ≡ true → IfSome (acknowledge_in f) (λ ack. ack.receive ≤ a.config.buffer) = λ t.
     (let kind : kind_of f.bytes ≡ Some kinds.Acknowledge = is_acknowledge_tells (kind_of f.bytes) (and_parts (is_acknowledge (kind_of f.bytes)) (is_some (acknowledge_in f)) t).0 in
-    let there : first_row (client_rows a k due wanted usable f (flag_of f.bytes) (Some kinds.Acknowledge)) ≡ None = ap (λ o. first_row (client_rows a k due wanted usable f (flag_of f.bytes) o)) (sym kind) ∙ rows in
-    accepted_ack a (acknowledge_in f) (first_passes (not (is_awaited k due (Some kinds.Acknowledge))) (Broken 0x807E0000) (first_row (broken (acknowledge_rows a (acknowledge_in f)))) there).1) in
+    let there : first_row (client_rows a first k due wanted usable f (flag_of f.bytes) (Some kinds.Acknowledge)) ≡ None = ap (λ o. first_row (client_rows a first k due wanted usable f (flag_of f.bytes) o)) (sym kind) ∙ rows in
+    accepted_ack a (acknowledge_in f) (first_passes (not (is_awaited first k due (Some kinds.Acknowledge))) (Broken 0x807E0000) (first_row (broken (acknowledge_rows a (acknowledge_in f)))) there).1) in
     subst (λ o. IfSome o (λ ack. ack.receive ≤ a.config.buffer)) (sym (known_ack past f)) (or_within a k.ack (acknowledge_in f) (is_acknowledge_frame f) w new)
 
 reading_within : (a : Asker) (cmds : Commands) (past : Past) (fs : List Frame) (rest : List ℕ) → Within a (client_known past) → Within a (client_known (client_reading a cmds past fs rest).past)

@@ -9,10 +9,8 @@ use Rattle.ua_conn.specs.declared.conversation.ends.Ends.{Ends}
 use Rattle.ua_conn.specs.declared.outcome.End.TheVariants.{Closed}
 use Rattle.ua_conn.specs.declared.schedule.Step.{Step}
 use Rattle.ua_conn.specs.declared.story.Story as given
-use Rattle.ua_conn.proofs.BothEnds.AnsweredLemmas.{answered_law}
 use Rattle.ua_conn.proofs.BothEnds.BetweenRunLemmas.{story_is}
-use Rattle.ua_conn.proofs.BothEnds.HandedLemmas.{handed_law}
-use Rattle.ua_conn.proofs.BothEnds.UnrefusedLemmas.{unrefused_law}
+use Rattle.ua_conn.proofs.BothEnds.ReverseLemmas.{handed_law, unrefused_law, answered_law}
 
 -- ---- it is that of the definitions
 

@@ -20,13 +20,13 @@ use Rattle.ua_conn.specs.server.Replies.{Reply, Acknowledge, Opened, Answer, Fai
 use Rattle.ua_conn.specs.server.Held.{newest_first}
 use Rattle.ua_conn.specs.client.Asker.{Asker}
 use Rattle.ua_conn.specs.client.Commands.{Commands}
-use Rattle.ua_conn.specs.client.Past.{client_known, error_in}
+use Rattle.ua_conn.specs.client.Past.{client_known, error_in, awaits_reverse}
 use Rattle.ua_conn.specs.client.Pending.{bytes_in, due_at, wanted_at}
 use Rattle.ua_conn.specs.client.Faults.{greatest_answer, error_rows, client_rows, client_fault_by, token_usable}
 use Rattle.ua_conn.specs.client.Reading.{ClientReading, client_fault_at, client_reading, client_reading_of}
 use Rattle.ua_conn.specs.client.Sending.{Sent}
 use Rattle.ua_conn.specs.Story.{Setup}
-use Rattle.ua_conn.specs.BothEnds.{AllAfter, IsSetup}
+use Rattle.ua_conn.specs.BothEnds.{AllAfter}
 use Rattle.ua_conn.specs.declared.client.fault.ClientFault.{ClientFault}
 use Rattle.ua_conn.specs.declared.client.fault.ClientFault.TheVariants.{Broken}
 use Rattle.ua_conn.specs.declared.outcome.End.{End}
@@ -40,6 +40,7 @@ use Rattle.ua_conn.proofs.BothEnds.OpeningKeepLemmas.{sent_are, replied_are}
 use Rattle.ua_conn.proofs.BothEnds.SpokenLemmas.{Fails, spell, spell_is, spelled_list, BeginsSpoken}
 use Rattle.ua_conn.proofs.BothEnds.SpokenReplyLemmas.{reply_spelled, replies_spoken, reply_begins}
 use Rattle.ua_conn.proofs.BothEnds.StoryLemmas.{all_spoken}
+use Rattle.ua_conn.proofs.BothEnds.PlainForms.{IsPlain}
 
 -- ---- a way in which all comes
 
@@ -110,13 +111,14 @@ error_refused : (a : Asker) (cmds : Commands) (past : Past) (f : Frame) (status 
 unfolding client_fault_by
 error_refused a cmds past f status e h =
     let k = client_known past in
+    let first = awaits_reverse a.reverse past in
     let end = bytes_in (f ∷ past) in
     let due = due_at cmds past end in
     let wanted = wanted_at cmds past end (carried f).request_id in
     let usable = token_usable k f in
     let kind : kind_of f.bytes ≡ Some kinds.Error = ap kind_of e ∙ (spell_is (Fails status) tt).kind in
-    let rows = or_none (option_map Broken (header_fault (greatest_answer k.ack) f.bytes)) (first_row (client_rows a k due wanted usable f (flag_of f.bytes) (kind_of f.bytes))) h in
-    error_holds (error_in f) (ap (λ o. first_row (client_rows a k due wanted usable f (flag_of f.bytes) o)) (sym kind) ∙ rows)
+    let rows = or_none (option_map Broken (header_fault (greatest_answer k.ack) f.bytes)) (first_row (client_rows a first k due wanted usable f (flag_of f.bytes) (kind_of f.bytes))) h in
+    error_holds (error_in f) (ap (λ o. first_row (client_rows a first k due wanted usable f (flag_of f.bytes) o)) (sym kind) ∙ rows)
 
 abbrev pub is_failed : Reply → Bool
 is_failed (Failed status) = true
@@ -178,10 +180,10 @@ pub record Standing (s : Setup) (cmds : Commands) (u v : List TimedByte) : Type 
   pub are : Are frames (frames_replied s.site 0 said)
   pub begins : IsPrefix said (replies s.site (reading_of s.site u).past)
 
-pub down_are : (s : Setup) (u v : List TimedByte) → IsSetup s → IsPrefix (plain v) (reply_bytes false s.site u) → BeginsSpoken v (replies_spoken s.site 0 (replies_of s.site u))
+pub down_are : (s : Setup) (u v : List TimedByte) → IsPlain s → IsPrefix (plain v) (reply_bytes false s.site u) → BeginsSpoken v (replies_spoken s.site 0 (replies_of s.site u))
 down_are s u v h p = reply_begins s.site u v p.0 (omega (arith, h.site.settings.bounds.limits.send_most)) p.1
 
-pub standing : (s : Setup) (cmds : Commands) (u v : List TimedByte) → IsSetup s → IsPrefix (plain v) (reply_bytes false s.site u) → Standing s cmds u v
+pub standing : (s : Setup) (cmds : Commands) (u v : List TimedByte) → IsPlain s → IsPrefix (plain v) (reply_bytes false s.site u) → Standing s cmds u v
 standing s cmds u v h p =
     let b = down_are s u v h p in
     let c = client_stands s.asker cmds [] (frames_of v) (plain (rest_of v)) in

@@ -1,5 +1,5 @@
 -- Worked stories of both ends, by computing the definitions.
-use Rattle.std.proofs.Common.{◌≡◌, ℕ, Bool, true, ◌+◌, ◌*◌, List, [], ◌∷◌, ◌++◌, map, length, refl, Option, Some, None}
+use Rattle.std.proofs.Common.{◌≡◌, ℕ, Bool, true, false, ◌+◌, ◌*◌, List, [], ◌∷◌, ◌++◌, map, length, refl, Option, Some, None}
 use Rattle.std.specs.Prelude.{pos, codes, flat_map, drop, ◌&&◌}
 use Rattle.std.specs.Int.{w64, to_le_bytes}
 use Rattle.std.specs.Str.{is_utf8, chars, bytes_eq}
@@ -65,6 +65,7 @@ asker_with max_message max_chunks = record {
   config = record { buffer = 65535; max_message = max_message; max_chunks = max_chunks; lifetime = 0 };
   url = Some (codes "opc.tcp://localhost:4840");
   first_sequence = 1;
+  reverse = false;
 }
 
 abbrev pub asker : Asker

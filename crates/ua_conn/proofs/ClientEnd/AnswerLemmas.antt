@@ -30,10 +30,10 @@ use Rattle.ua_conn.proofs.ServerEnd.MessageLemmas.{IsChunkOf}
 use Rattle.ua_conn.proofs.ClientEnd.EffectLemmas.{broken_first, broken_none, given, waits_of}
 
 -- what the rows of a part say counts for the whole table
-answer_decides : (config : ClientConfig) (ack : Option Ack) (channel : Shown) (half : Option Half) (pending : List (ℕ × Request)) (due : Option ℕ) (now flag : ℕ) (o : Option Chunk) (c : Chunk) →
+answer_decides : (config : ClientConfig) (reverse : Bool) (ack : Option Ack) (channel : Shown) (half : Option Half) (pending : List (ℕ × Request)) (due : Option ℕ) (now flag : ℕ) (o : Option Chunk) (c : Chunk) →
     o ≡ Some c → first_row (answer_heard_rows channel.channel now o) ≡ None →
-    first_row (answer_effect config (waits_of ack channel half pending due) now flag o).rows ≡ option_map Broken (first_row (answer_rows (asker_with config) (client_known_of ack channel half) (waiting_under c.request_id pending) flag c))
-answer_decides config ack channel half pending due now flag o c e h =
+    first_row (answer_effect config (waits_of reverse ack channel half pending due) now flag o).rows ≡ option_map Broken (first_row (answer_rows (asker_with config) (client_known_of ack channel half) (waiting_under c.request_id pending) flag c))
+answer_decides config reverse ack channel half pending due now flag o c e h =
     let d = or_empty o in
     let heard = answer_heard_rows (client_channel (client_known_of ack channel half)) now o in
     let more : Chunk → List Row = λ c. answer_rows (asker_with config) (client_known_of ack channel half) (waiting_under c.request_id pending) flag c in
@@ -57,11 +57,11 @@ gathered_are config ack channel g c flag request wanted b q w same =
     ∷ abort_malformed c.flag c.chunk.body
     ∷ cond (c.flag == 70) (whole_rows (Some request) (response_of (body_of g.half ++ c.chunk.body))) []))
 
-pub answer_rows_are : (config : ClientConfig) (ack : Option Ack) (channel : Shown) (g : Gathered) (pending : List (ℕ × Request)) (due : Option ℕ) (now flag : ℕ) (o : Option Chunk) (c : FlaggedChunk) (kind : Kind) (request : Request) →
+pub answer_rows_are : (config : ClientConfig) (reverse : Bool) (ack : Option Ack) (channel : Shown) (g : Gathered) (pending : List (ℕ × Request)) (due : Option ℕ) (now flag : ℕ) (o : Option Chunk) (c : FlaggedChunk) (kind : Kind) (request : Request) →
     IsHalf config g → IsChunkOf kind flag o c → first_row (answer_heard_rows channel.channel now o) ≡ None → may_have_id g.half c.chunk.request_id ≡ true → waiting_under c.chunk.request_id pending ≡ Some request →
-    first_row (answer_effect config (waits_of ack channel g.half pending due) now flag o).rows ≡ first_row (broken (gathered_rows g c request))
-answer_rows_are config ack channel g pending due now flag o c kind request b is h same w =
-    answer_decides config ack channel g.half pending due now flag o c.chunk is.chunk h
+    first_row (answer_effect config (waits_of reverse ack channel g.half pending due) now flag o).rows ≡ first_row (broken (gathered_rows g c request))
+answer_rows_are config reverse ack channel g pending due now flag o c kind request b is h same w =
+    answer_decides config reverse ack channel g.half pending due now flag o c.chunk is.chunk h
     ∙ ap (option_map Broken) (gathered_are config ack channel g c flag request (waiting_under c.chunk.request_id pending) b is.flag_is w same)
     ∙ sym (broken_first (gathered_rows g c request))
 
@@ -87,21 +87,21 @@ pub record Ends (id : ℕ) (pending pending' : List (ℕ × Request)) (came : Op
   pub left : pending' ≡ cond (is_some came) (without id pending) pending
   pub given : has ≡ had ++ answer_with id (waiting_under id pending) came
 
-pub answer_acts : (config : ClientConfig) (ack : Option Ack) (channel new : Shown) (g g' : Gathered) (pending pending' : List (ℕ × Request)) (due : Option ℕ) (next now flag : ℕ) (o : Option Chunk) (c : FlaggedChunk) (kind : Kind) (request : Request) (came : Option AnswerResult) (bytes : List ℕ) (had has : List Answer) →
+pub answer_acts : (config : ClientConfig) (reverse : Bool) (ack : Option Ack) (channel new : Shown) (g g' : Gathered) (pending pending' : List (ℕ × Request)) (due : Option ℕ) (next now flag : ℕ) (o : Option Chunk) (c : FlaggedChunk) (kind : Kind) (request : Request) (came : Option AnswerResult) (bytes : List ℕ) (had has : List Answer) →
     IsHalf config g → IsChunkOf kind flag o c → first_row (answer_heard_rows channel.channel now o) ≡ None → new ≡ record { channel = numbered channel.channel c.chunk.sequence; moment = now } →
     may_have_id g.half c.chunk.request_id ≡ true → waiting_under c.chunk.request_id pending ≡ Some request →
     first_row (broken (gathered_rows g c request)) ≡ None → Gathers g g' c came → Ends c.chunk.request_id pending pending' came had has →
-    Acts (answer_effect config (waits_of ack channel g.half pending due) now flag o) (client_running_of config ack channel g.half pending due next) (client_running_of config ack new g'.half pending' due next) (given bytes had) (given bytes has)
-answer_acts config ack channel new g g' pending pending' due next now flag o c kind request came bytes had has b is heard h same w rows gathers ends =
+    Acts (answer_effect config (waits_of reverse ack channel g.half pending due) now flag o) (client_running_of config reverse ack channel g.half pending due next) (client_running_of config reverse ack new g'.half pending' due next) (given bytes had) (given bytes has)
+answer_acts config reverse ack channel new g g' pending pending' due next now flag o c kind request came bytes had has b is heard h same w rows gathers ends =
     let id = c.chunk.request_id in
     let whole : came ≡ result_with g.half flag c.chunk.body = gathers.result ∙ ap (λ flag. result_with g.half flag c.chunk.body) is.flag_is in
     let ended : is_some came ≡ ends_message flag = ap is_some gathers.result ∙ ends_with g c request (broken_none (gathered_rows g c request) rows) ∙ ap ends_message is.flag_is in
-    subst (λ o. Acts (answer_effect config (waits_of ack channel g.half pending due) now flag o) (client_running_of config ack channel g.half pending due next) (client_running_of config ack new g'.half pending' due next) (given bytes had) (given bytes has)) (sym is.chunk)
+    subst (λ o. Acts (answer_effect config (waits_of reverse ack channel g.half pending due) now flag o) (client_running_of config reverse ack channel g.half pending due next) (client_running_of config reverse ack new g'.half pending' due next) (given bytes had) (given bytes has)) (sym is.chunk)
     (record {
-      fine = ap (λ o. first_row (answer_effect config (waits_of ack channel g.half pending due) now flag o).rows) (sym is.chunk) ∙ answer_rows_are config ack channel g pending due now flag o c kind request b is heard same w ∙ rows;
+      fine = ap (λ o. first_row (answer_effect config (waits_of reverse ack channel g.half pending due) now flag o).rows) (sym is.chunk) ∙ answer_rows_are config reverse ack channel g pending due now flag o c kind request b is heard same w ∙ rows;
       config = refl;
-      waits = (λ i. waits_of ack (h i) (gathers.half i) (ends.left i) due)
-          ∙ (λ i. record (waits_of ack channel g.half pending due) {
+      waits = (λ i. waits_of reverse ack (h i) (gathers.half i) (ends.left i) due)
+          ∙ (λ i. record (waits_of reverse ack channel g.half pending due) {
             known = record (client_known_of ack channel g.half) { last = Some c.chunk.sequence; half = half_after g.half (is.flag_is i) id c.chunk.body };
             pending = cond (ended i) (without id pending) pending;
           });

@@ -76,16 +76,16 @@ is_some_id None id e = absurd (cc e)
 is_some_id (Some x) id e = (x, refl)
 
 -- A frame in which no row holds is one in which none holds where more is pending.
-pub fault_stays : (a : Asker) (k : ClientKnown) (due due' : Option ℕ) (wanted wanted' : Option Request) (usable : Bool) (f : Frame) → ((id : ℕ) → due ≡ Some id → due' ≡ Some id) → ((r : Request) → wanted ≡ Some r → wanted' ≡ Some r)
-    → client_fault_by a k due wanted usable f ≡ None → client_fault_by a k due' wanted' usable f ≡ None
+pub fault_stays : (a : Asker) (reverse : Bool) (k : ClientKnown) (due due' : Option ℕ) (wanted wanted' : Option Request) (usable : Bool) (f : Frame) → ((id : ℕ) → due ≡ Some id → due' ≡ Some id) → ((r : Request) → wanted ≡ Some r → wanted' ≡ Some r)
+    → client_fault_by a reverse k due wanted usable f ≡ None → client_fault_by a reverse k due' wanted' usable f ≡ None
 unfolding client_fault_by
-fault_stays a k due due' wanted wanted' usable f more_due more_wanted h = by (kind_of f.bytes) refl
+fault_stays a reverse k due due' wanted wanted' usable f more_due more_wanted h = by (kind_of f.bytes) refl
   where
     head : Option ClientFault
     head = option_map Broken (header_fault (greatest_answer k.ack) f.bytes)
 
     table : Option ℕ → Option Request → Option Kind → Option ClientFault
-    table d w kind = or_else head (first_row (client_rows a k d w usable f (flag_of f.bytes) kind))
+    table d w kind = or_else head (first_row (client_rows a reverse k d w usable f (flag_of f.bytes) kind))
 
     here : (kind : Option Kind) → kind_of f.bytes ≡ kind → table due wanted kind ≡ None
     here kind e = ap (table due wanted) (sym e) ∙ h
@@ -100,10 +100,10 @@ fault_stays a k due due' wanted wanted' usable f more_due more_wanted h = by (ki
     by (Some kinds.Error) e = there (Some kinds.Error) e (here (Some kinds.Error) e)
     by (Some kinds.ReverseHello) e = there (Some kinds.ReverseHello) e (here (Some kinds.ReverseHello) e)
     by (Some kinds.Open) e =
-        let id = is_some_id due (opening_id (open_in f)) (open_due a k due wanted usable f h (ap is_open e)) in
+        let id = is_some_id due (opening_id (open_in f)) (open_due a reverse k due wanted usable f h (ap is_open e)) in
         there (Some kinds.Open) e (ap (λ d. table d wanted' (Some kinds.Open)) (more_due id.0 id.1 ∙ sym id.1) ∙ here (Some kinds.Open) e)
     by (Some kinds.Message) e =
-        let r = a_some wanted (message_wanted a k due wanted usable f h (ap is_message e)) in
+        let r = a_some wanted (message_wanted a reverse k due wanted usable f h (ap is_message e)) in
         there (Some kinds.Message) e (ap (λ w. table due' w (Some kinds.Message)) (more_wanted r.0 r.1 ∙ sym r.1) ∙ here (Some kinds.Message) e)
     by (Some kinds.Close) e = there (Some kinds.Close) e (here (Some kinds.Close) e)
 
@@ -112,7 +112,7 @@ accepts_more a c cmds past f h =
     let k = client_known past in
     let end = bytes_in (f ∷ past) in
     let id = (carried f).request_id in
-    fault_stays a k (due_at cmds past end) (due_at (c ∷ cmds) past end) (wanted_at cmds past end id) (wanted_at (c ∷ cmds) past end id) (is_known k.tokens (carried f).token) f
+    fault_stays a false k (due_at cmds past end) (due_at (c ∷ cmds) past end) (wanted_at cmds past end id) (wanted_at (c ∷ cmds) past end id) (is_known k.tokens (carried f).token) f
     (λ n. due_stays c cmds past end n) (λ r. wanted_stays c cmds past end id r) h
 
 pub all_accept : (a : Asker) (c : Command) (cmds : Commands) (past : Past) (fs : List Frame) → AllAfter (Accepts a cmds) past fs → AllAfter (Accepts a (c ∷ cmds)) past fs

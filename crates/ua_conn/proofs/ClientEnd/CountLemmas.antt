@@ -10,7 +10,7 @@ use Rattle.ua_conn.specs.Past.{Past, is_open, carried, open_in}
 use Rattle.ua_conn.specs.client.Asker.{Asker}
 use Rattle.ua_conn.specs.client.Commands.{Act, Ask, Renew, Close, Commands, OpenAsked, opens_asked, opens_by, next_id}
 use Rattle.ua_conn.specs.client.Unanswered.{AreApart}
-use Rattle.ua_conn.specs.client.Past.{client_known, granted_in, granted_by, response_in}
+use Rattle.ua_conn.specs.client.Past.{client_known, awaits_reverse, granted_in, granted_by, response_in}
 use Rattle.ua_conn.specs.client.Pending.{bytes_in, is_among, opening_id, opened_ids, wanted_at, opening_in, due_at, first_id}
 use Rattle.ua_conn.specs.client.Faults.{is_id, token_usable}
 use Rattle.ua_conn.specs.client.Reading.{client_fault_at, client_reading_of}
@@ -115,7 +115,7 @@ counted_step a cmds past f h k = record { few = by (is_open (kind_of f.bytes)) r
 
     by : (b : Bool) → is_open (kind_of f.bytes) ≡ b → length (granted_in (f ∷ past)) + length (opening_in cmds (f ∷ past)) ≤ length (opens_asked cmds)
     by true e =
-        let due = open_due a (client_known past) (due_at cmds past end) (wanted_at cmds past end (carried f).request_id) (token_usable (client_known past) f) f h e in
+        let due = open_due a (awaits_reverse a.reverse past) (client_known past) (due_at cmds past end) (wanted_at cmds past end (carried f).request_id) (token_usable (client_known past) f) f h e in
         omega (arith, k.few, granted_one past f e, ap length (opening_open cmds past f e), drops_due (λ r. nat_lt r.seen end) (opening_id (open_in f)) (opening_in cmds past) due)
     by false e = omega (arith, k.few, ap length (granted_quiet past f e), ap length (opening_quiet cmds past f e))
 

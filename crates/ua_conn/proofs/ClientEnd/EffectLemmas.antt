@@ -4,7 +4,9 @@ use Rattle.std.specs.Prelude.{not, is_some, option_map}
 use Rattle.std.proofs.lemmas.Bool.{eq-eqb, eqb-true, not-false}
 use Rattle.std.proofs.lemmas.List.{append-nil}
 use Rattle.ua_frame.specs.Rows.{Row, first_row}
+use Rattle.ua_frame.specs.Hello.{hello_frame}
 use Rattle.ua_frame.specs.declared.acknowledge.Ack.{Ack}
+use Rattle.ua_frame.specs.declared.reverse_hello.ReverseHello.{ReverseHello}
 use Rattle.ua_chunk.specs.Layout.{OpenChunk}
 use Rattle.ua_chunk.specs.Half.{Half}
 use Rattle.ua_chunk.specs.Numbers.{number_after}
@@ -15,15 +17,16 @@ use Rattle.ua_channel.specs.ClientChannel.{admit_response_rows, opened_as}
 use Rattle.ua_service.specs.declared.channel.OpenResponse.{OpenResponse}
 use Rattle.ua_service.specs.declared.request.Request.{Request}
 use Rattle.ua_service.specs.ChannelMessages.{open_response_of}
+use Rattle.ua_conn.specs.client.Asker.{hello_to}
 use Rattle.ua_conn.specs.client.Past.{granted_by}
-use Rattle.ua_conn.specs.client.Faults.{broken, is_id, acknowledge_rows, response_rows, opened_rows}
+use Rattle.ua_conn.specs.client.Faults.{broken, is_id, reverse_rows, acknowledge_rows, response_rows, opened_rows}
 use Rattle.ua_conn.specs.client.Questions.{open_asked_body}
 use Rattle.ua_conn.specs.client.Sending.{sent_bytes}
 use Rattle.ua_conn.specs.client.Machine.{Awaiting, unless_id}
 use Rattle.ua_conn.specs.client.Taking.{ClientRunning}
 use Rattle.ua_conn.specs.client.Telling.{numbered_to}
 use Rattle.ua_conn.specs.client.Ranges.{client_known_of, client_running_of}
-use Rattle.ua_conn.specs.client.Effects.{asker_with, acknowledge_effect, opening_effect, Given, Acts}
+use Rattle.ua_conn.specs.client.Effects.{asker_with, reverse_effect, acknowledge_effect, opening_effect, Given, Acts}
 use Rattle.ua_conn.specs.declared.client.config.ClientConfig.{ClientConfig}
 use Rattle.ua_conn.specs.declared.client.answer.Answer.{Answer}
 use Rattle.ua_conn.specs.declared.client.fault.ClientFault.TheVariants.{Broken}
@@ -50,8 +53,8 @@ broken_none rows h = unbroken (first_row rows) (sym (broken_first rows) ∙ h)
 abbrev pub given : List ℕ → List Answer → Given
 given bytes answers = record { bytes = bytes; answers = answers }
 
-abbrev pub waits_of : Option Ack → Shown → Option Half → List (ℕ × Request) → Option ℕ → Awaiting
-waits_of ack channel half pending due = record { known = client_known_of ack channel half; pending = pending; due = due }
+abbrev pub waits_of : Bool → Option Ack → Shown → Option Half → List (ℕ × Request) → Option ℕ → Awaiting
+waits_of reverse ack channel half pending due = record { reverse = reverse; known = client_known_of ack channel half; pending = pending; due = due }
 
 -- ---- an OPN
 
@@ -59,10 +62,10 @@ abbrev pub admitting_rows : Channel → Option Half → Option ℕ → OpenChunk
 admitting_rows c half due opening = admit_response_rows c opening ++ (is_some half, 0x807E0000) ∷ (not (is_id due opening.request_id), 0x80090000) ∷ []
 
 -- what the rows of its response say counts for the whole table
-pub response_decides : (ack : Option Ack) (channel : Shown) (half : Option Half) (pending : List (ℕ × Request)) (due : Option ℕ) (now : ℕ) (o : Option OpenChunk) (opening : OpenChunk) →
+pub response_decides : (reverse : Bool) (ack : Option Ack) (channel : Shown) (half : Option Half) (pending : List (ℕ × Request)) (due : Option ℕ) (now : ℕ) (o : Option OpenChunk) (opening : OpenChunk) →
     o ≡ Some opening → first_row (admitting_rows channel.channel half due opening) ≡ None →
-    first_row (opening_effect (waits_of ack channel half pending due) now o).rows ≡ first_row (response_rows opening.channel (open_response_of opening.body))
-response_decides ack channel half pending due now o opening e h =
+    first_row (opening_effect (waits_of reverse ack channel half pending due) now o).rows ≡ first_row (response_rows opening.channel (open_response_of opening.body))
+response_decides reverse ack channel half pending due now o opening e h =
     ap (λ o. first_row (opened_rows (client_known_of ack channel half) due o)) e
     ∙ join_none (broken (admitting_rows channel.channel half due opening)) (response_rows opening.channel (open_response_of opening.body)) (broken_first (admitting_rows channel.channel half due opening) ∙ ap (option_map Broken) h)
 
@@ -85,18 +88,18 @@ due_then c half due opening h =
         by true g h = h
         by false g h = g h
 
-pub opening_acts : (config : ClientConfig) (ack : Option Ack) (channel heard new : Shown) (half : Option Half) (pending : List (ℕ × Request)) (due : Option ℕ) (next now : ℕ) (o : Option OpenChunk) (opening : OpenChunk) (response : OpenResponse) (bytes : List ℕ) (answers : List Answer) →
+pub opening_acts : (config : ClientConfig) (reverse : Bool) (ack : Option Ack) (channel heard new : Shown) (half : Option Half) (pending : List (ℕ × Request)) (due : Option ℕ) (next now : ℕ) (o : Option OpenChunk) (opening : OpenChunk) (response : OpenResponse) (bytes : List ℕ) (answers : List Answer) →
     o ≡ Some opening → first_row (admitting_rows channel.channel half due opening) ≡ None → heard ≡ record { channel = numbered channel.channel opening.sequence; moment = channel.moment } →
     first_row (response_rows opening.channel (open_response_of opening.body)) ≡ None → open_response_of opening.body ≡ Some response →
     new ≡ record { channel = opened_as opening.channel heard.channel response now; moment = now } →
-    Acts (opening_effect (waits_of ack channel half pending due) now o) (client_running_of config ack channel half pending due next) (client_running_of config ack new half pending None next) (given bytes answers) (given bytes answers)
-opening_acts config ack channel heard new half pending due next now o opening response bytes answers e admitted h rows reads n =
-    subst (λ o. Acts (opening_effect (waits_of ack channel half pending due) now o) (client_running_of config ack channel half pending due next) (client_running_of config ack new half pending None next) (given bytes answers) (given bytes answers)) (sym e)
+    Acts (opening_effect (waits_of reverse ack channel half pending due) now o) (client_running_of config reverse ack channel half pending due next) (client_running_of config reverse ack new half pending None next) (given bytes answers) (given bytes answers)
+opening_acts config reverse ack channel heard new half pending due next now o opening response bytes answers e admitted h rows reads n =
+    subst (λ o. Acts (opening_effect (waits_of reverse ack channel half pending due) now o) (client_running_of config reverse ack channel half pending due next) (client_running_of config reverse ack new half pending None next) (given bytes answers) (given bytes answers)) (sym e)
     (record {
-      fine = response_decides ack channel half pending due now (Some opening) opening refl admitted ∙ rows;
+      fine = response_decides reverse ack channel half pending due now (Some opening) opening refl admitted ∙ rows;
       config = refl;
-      waits = ap (λ (x : Shown). waits_of ack x half pending None) n
-          ∙ (λ i. record (waits_of ack channel half pending due) {
+      waits = ap (λ (x : Shown). waits_of reverse ack x half pending None) n
+          ∙ (λ i. record (waits_of reverse ack channel half pending due) {
             known = record (client_known_of ack channel half) {
               channel = opening.channel;
               tokens = two_newest (granted_by (sym reads i) now ∷ (h i).channel.tokens);
@@ -109,15 +112,32 @@ opening_acts config ack channel heard new half pending due next now o opening re
       given = sym (append-nil answers);
     })
 
+-- ---- an RHE
+
+pub reverse_acts : (config : ClientConfig) (reverse : Bool) (ack : Option Ack) (channel : Shown) (half : Option Half) (pending : List (ℕ × Request)) (due : Option ℕ) (next : ℕ) (o : Option ReverseHello) (hello : ReverseHello) (out out' : List ℕ) (answers : List Answer) →
+    first_row (broken (reverse_rows o)) ≡ None → o ≡ Some hello → out' ≡ out ++ hello_frame (hello_to config hello.endpoint_url) →
+    Acts (reverse_effect config (waits_of reverse ack channel half pending due) o) (client_running_of config reverse ack channel half pending due next) (client_running_of config false ack channel half pending due next) (given out answers) (given out' answers)
+unfolding sent_bytes
+reverse_acts config reverse ack channel half pending due next o hello out out' answers h e w =
+    subst (λ o. Acts (reverse_effect config (waits_of reverse ack channel half pending due) o) (client_running_of config reverse ack channel half pending due next) (client_running_of config false ack channel half pending due next) (given out answers) (given out' answers)) (sym e)
+    (record {
+      fine = ap (λ o. first_row (broken (reverse_rows o))) (sym e) ∙ h;
+      config = refl;
+      waits = refl;
+      number = refl;
+      said = w ∙ ap (λ b. out ++ b) (sym (append-nil (hello_frame (hello_to config hello.endpoint_url))));
+      given = sym (append-nil answers);
+    })
+
 -- ---- an ACK
 
-pub acknowledge_acts : (config : ClientConfig) (before : Option Ack) (channel : Shown) (half : Option Half) (pending : List (ℕ × Request)) (due : Option ℕ) (next now : ℕ) (o : Option Ack) (ack : Ack) (new : ClientRunning) (out out' : List ℕ) (answers : List Answer) →
+pub acknowledge_acts : (config : ClientConfig) (reverse : Bool) (before : Option Ack) (channel : Shown) (half : Option Half) (pending : List (ℕ × Request)) (due : Option ℕ) (next now : ℕ) (o : Option Ack) (ack : Ack) (new : ClientRunning) (out out' : List ℕ) (answers : List Answer) →
     first_row (broken (acknowledge_rows (asker_with config) o)) ≡ None → o ≡ Some ack → out' ≡ out ++ open_frame 0 next 1 (open_asked_body now 1 0 config.lifetime) →
-    new ≡ numbered_to (client_running_of config (Some ack) channel half pending due next) (number_after next 1) →
-    Acts (acknowledge_effect config (waits_of before channel half pending due) now o) (client_running_of config before channel half pending due next) new (given out answers) (given out' answers)
+    new ≡ numbered_to (client_running_of config reverse (Some ack) channel half pending due next) (number_after next 1) →
+    Acts (acknowledge_effect config (waits_of reverse before channel half pending due) now o) (client_running_of config reverse before channel half pending due next) new (given out answers) (given out' answers)
 unfolding sent_bytes
-acknowledge_acts config before channel half pending due next now o ack new out out' answers h e w n =
-    subst (λ o. Acts (acknowledge_effect config (waits_of before channel half pending due) now o) (client_running_of config before channel half pending due next) new (given out answers) (given out' answers)) (sym e)
+acknowledge_acts config reverse before channel half pending due next now o ack new out out' answers h e w n =
+    subst (λ o. Acts (acknowledge_effect config (waits_of reverse before channel half pending due) now o) (client_running_of config reverse before channel half pending due next) new (given out answers) (given out' answers)) (sym e)
     (record {
       fine = ap (λ o. first_row (broken (acknowledge_rows (asker_with config) o))) (sym e) ∙ h;
       config = ap (λ (r : ClientRunning). r.config) n;

@@ -93,7 +93,7 @@ refused_whole : (a : Asker) (w : Awaiting) (bytes : List ℕ) (n now : ℕ) (fau
 unfolding client_fault_by client_fault_in_rest
 refused_whole a w bytes n now fault h e =
     let f = first_frame now n bytes in
-    let rows = client_rows a w.known w.due (waiting_under (carried f).request_id w.pending) (token_usable w.known f) f (flag_of f.bytes) (kind_of f.bytes) in
+    let rows = client_rows a w.reverse w.known w.due (waiting_under (carried f).request_id w.pending) (token_usable w.known f) f (flag_of f.bytes) (kind_of f.bytes) in
     ap (λ o. or_else (option_map Broken o) (first_row rows)) (header_fault_take (greatest_answer w.known.ack) n bytes (omega (arith, h.frame.header, length-take-le n bytes h.within)))
     ∙ ap (λ o. or_else o (first_row rows)) e
 

@@ -14,7 +14,7 @@ use Rattle.ua_service.specs.declared.request.Request.{Request}
 use Rattle.ua_conn.specs.Past.{Past, is_open, is_message, carried, open_in}
 use Rattle.ua_conn.specs.client.Asker.{Asker}
 use Rattle.ua_conn.specs.client.Commands.{Act, Ask, Renew, Close, Commands, Asked, OpenAsked, asked_in, asked_by, opens_asked, opens_by, next_id, request_under}
-use Rattle.ua_conn.specs.client.Past.{ClientKnown, client_known}
+use Rattle.ua_conn.specs.client.Past.{ClientKnown, client_known, awaits_reverse}
 use Rattle.ua_conn.specs.client.Pending.{bytes_in, is_among, ends_one, opening_id, ended_ids, opened_ids, wanted_at, due_at, first_id}
 use Rattle.ua_conn.specs.client.Faults.{greatest_answer, client_rows, client_fault_by, is_id, opened_rows, token_usable}
 use Rattle.ua_conn.specs.client.Reading.{client_fault_at, client_reading}
@@ -26,25 +26,25 @@ use Rattle.ua_conn.proofs.TableLemmas.{AllNo, all_no, or_none}
 -- ---- rows of a frame that stands
 
 -- the rows of a frame that stands, by its type
-pub rows_of_kind : (a : Asker) (k : ClientKnown) (due : Option ℕ) (wanted : Option Request) (usable : Bool) (f : Frame) (kind : Option Kind) → client_fault_by a k due wanted usable f ≡ None → kind_of f.bytes ≡ kind →
-    first_row (client_rows a k due wanted usable f (flag_of f.bytes) kind) ≡ None
+pub rows_of_kind : (a : Asker) (reverse : Bool) (k : ClientKnown) (due : Option ℕ) (wanted : Option Request) (usable : Bool) (f : Frame) (kind : Option Kind) → client_fault_by a reverse k due wanted usable f ≡ None → kind_of f.bytes ≡ kind →
+    first_row (client_rows a reverse k due wanted usable f (flag_of f.bytes) kind) ≡ None
 unfolding client_fault_by
-rows_of_kind a k due wanted usable f kind h e =
-    ap (λ x. first_row (client_rows a k due wanted usable f (flag_of f.bytes) x)) (sym e)
-    ∙ or_none (option_map Broken (header_fault (greatest_answer k.ack) f.bytes)) (first_row (client_rows a k due wanted usable f (flag_of f.bytes) (kind_of f.bytes))) h
+rows_of_kind a reverse k due wanted usable f kind h e =
+    ap (λ x. first_row (client_rows a reverse k due wanted usable f (flag_of f.bytes) x)) (sym e)
+    ∙ or_none (option_map Broken (header_fault (greatest_answer k.ack) f.bytes)) (first_row (client_rows a reverse k due wanted usable f (flag_of f.bytes) (kind_of f.bytes))) h
 
 -- a MSG that stands is wanted
-pub message_wanted : (a : Asker) (k : ClientKnown) (due : Option ℕ) (wanted : Option Request) (usable : Bool) (f : Frame) → client_fault_by a k due wanted usable f ≡ None → is_message (kind_of f.bytes) ≡ true → is_none wanted ≡ false
-message_wanted a k due wanted usable f h m =
-    let no = all_no (client_rows a k due wanted usable f (flag_of f.bytes) (Some kinds.Message)) (rows_of_kind a k due wanted usable f (Some kinds.Message) h (is_message_tells (kind_of f.bytes) m)) in
+pub message_wanted : (a : Asker) (reverse : Bool) (k : ClientKnown) (due : Option ℕ) (wanted : Option Request) (usable : Bool) (f : Frame) → client_fault_by a reverse k due wanted usable f ≡ None → is_message (kind_of f.bytes) ≡ true → is_none wanted ≡ false
+message_wanted a reverse k due wanted usable f h m =
+    let no = all_no (client_rows a reverse k due wanted usable f (flag_of f.bytes) (Some kinds.Message)) (rows_of_kind a reverse k due wanted usable f (Some kinds.Message) h (is_message_tells (kind_of f.bytes) m)) in
     no.1.1.1.1.1.1.0
 
 -- an OPN that stands answers the open request that is due
-pub open_due : (a : Asker) (k : ClientKnown) (due : Option ℕ) (wanted : Option Request) (usable : Bool) (f : Frame) → client_fault_by a k due wanted usable f ≡ None → is_open (kind_of f.bytes) ≡ true → is_id due (opening_id (open_in f)) ≡ true
-open_due a k due wanted usable f h m = by (open_in f) refl
+pub open_due : (a : Asker) (reverse : Bool) (k : ClientKnown) (due : Option ℕ) (wanted : Option Request) (usable : Bool) (f : Frame) → client_fault_by a reverse k due wanted usable f ≡ None → is_open (kind_of f.bytes) ≡ true → is_id due (opening_id (open_in f)) ≡ true
+open_due a reverse k due wanted usable f h m = by (open_in f) refl
   where
     no : AllNo (opened_rows k due (open_in f))
-    no = (all_no (client_rows a k due wanted usable f (flag_of f.bytes) (Some kinds.Open)) (rows_of_kind a k due wanted usable f (Some kinds.Open) h (is_open_tells (kind_of f.bytes) m))).1
+    no = (all_no (client_rows a reverse k due wanted usable f (flag_of f.bytes) (Some kinds.Open)) (rows_of_kind a reverse k due wanted usable f (Some kinds.Open) h (is_open_tells (kind_of f.bytes) m))).1
 
     by : (o : Option OpenChunk) → open_in f ≡ o → is_id due (opening_id (open_in f)) ≡ true
     by None e = let n : AllNo (opened_rows k due None) = subst (λ o. AllNo (opened_rows k due o)) e no in absurd (cc (n.0))
@@ -148,14 +148,14 @@ fresh_step a cmds past f h fresh = record { ended = λ id le. ends id le (ends_o
     ends : (id : ℕ) → next_id cmds ≤ id → (b : Bool) → ends_one f ≡ b → is_among (ended_ids (f ∷ past)) id ≡ false
     ends id le false e = rw e (fresh.ended id le)
     ends id le true e =
-        let some = message_wanted a (client_known past) due wanted (token_usable (client_known past) f) f h (and_parts (is_message (kind_of f.bytes)) (ends_message (flag_of f.bytes)) e).0 in
+        let some = message_wanted a (awaits_reverse a.reverse past) (client_known past) due wanted (token_usable (client_known past) f) f h (and_parts (is_message (kind_of f.bytes)) (ends_message (flag_of f.bytes)) e).0 in
         let lt = under_below (next_id cmds) (carried f).request_id _ (below_filter (next_id cmds) _ _ (below_filter (next_id cmds) _ (asked_in cmds) (asked_below cmds))) some in
         rw e (other (next_id cmds) id (carried f).request_id (ended_ids past) lt le (fresh.ended id le))
 
     opens : (id : ℕ) → next_id cmds ≤ id → (b : Bool) → is_open (kind_of f.bytes) ≡ b → is_among (opened_ids (f ∷ past)) id ≡ false
     opens id le false e = rw e (fresh.opened id le)
     opens id le true e =
-        let is = open_due a (client_known past) due wanted (token_usable (client_known past) f) f h e in
+        let is = open_due a (awaits_reverse a.reverse past) (client_known past) due wanted (token_usable (client_known past) f) f h e in
         let lt = due_below (next_id cmds) (opening_id (open_in f)) _ (opens_filter (next_id cmds) _ _ (opens_filter (next_id cmds) _ (opens_asked cmds) (opens_below cmds))) is in
         rw e (other (next_id cmds) id (opening_id (open_in f)) (opened_ids past) lt le (fresh.opened id le))
 

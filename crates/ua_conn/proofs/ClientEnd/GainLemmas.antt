@@ -17,7 +17,7 @@ use Rattle.ua_conn.specs.Past.{Past, carried}
 use Rattle.ua_conn.specs.server.Held.{newest_first}
 use Rattle.ua_conn.specs.client.Asker.{Asker}
 use Rattle.ua_conn.specs.client.Commands.{Act, Ask, Renew, Close, Command, Commands, Asked, OpenAsked, asked_in, asked_by, opens_asked, opens_by, next_id, closes, is_closed}
-use Rattle.ua_conn.specs.client.Past.{client_known, acknowledge_frame_in}
+use Rattle.ua_conn.specs.client.Past.{client_known, acknowledge_frame_in, awaits_reverse}
 use Rattle.ua_conn.specs.client.Pending.{bytes_in, come_by, is_among, ended_ids, opened_ids, opening_in, due_in, first_id}
 use Rattle.ua_conn.specs.client.Reading.{ClientReading, client_fault_at, client_reading, client_reading_of, answer_at, answers}
 use Rattle.ua_conn.specs.client.Sending.{Sent, sent_bytes, has_place, more_sent, sent_after, sent_all, greets, opens, act_says, commands_say, sent_by}
@@ -32,6 +32,7 @@ use Rattle.ua_conn.proofs.ClientEnd.PlaceLemmas.{AllBehind, bytes_of_frames, fra
 use Rattle.ua_conn.proofs.ClientEnd.ReadingLemmas.{stands, reads_more, reads_same, same_wanted}
 use Rattle.ua_conn.proofs.BothEnds.FaithfulLemmas.{AllSeen, IsStarted, untold, acknowledged, seen_later, seen_one, started_later, sent_append, accepted_acked}
 use Rattle.ua_conn.proofs.ClientEnd.FreshLemmas.{fresh}
+use Rattle.ua_conn.proofs.ClientEnd.GreetingLemmas.{greeted_of}
 use Rattle.ua_conn.proofs.ClientEnd.RecordLemmas.{awaiting}
 use Rattle.ua_conn.proofs.ClientEnd.RunLemmas.{AtMostOne, one_more, IsClientRun, client_run_is}
 
@@ -175,7 +176,7 @@ past_of a log = (client_reading_of a (commands_of log) (stream_of log)).past
 -- one more piece is read behind the frames that stand
 record ReadsPiece (a : Asker) (log : Log) (x : Piece) (R : ClientReading) : Type 0 where
   reading : client_reading_of a (commands_of log) (stream_of (Came x ∷ log)) ≡ R
-  run : IsClientRun a (commands_of log) (past_of a log) (came_frames log x) R (client_run a (awaiting (commands_of log) (past_of a log)) (came_frames log x) (came_rest log x))
+  run : IsClientRun a (commands_of log) (past_of a log) (came_frames log x) R (client_run a (awaiting a (commands_of log) (past_of a log)) (came_frames log x) (came_rest log x))
   rest : plain (rest_of (stream_of (Came x ∷ log))) ≡ came_rest log x
 
 reads_piece : (a : Asker) (log : Log) (x : Piece) → IsLog a log → fault_in a log ≡ None →
@@ -195,7 +196,7 @@ reads_piece a log x is fine =
     let behind : AllBehind (length v) P gs = subst (λ (past : Past). AllBehind (length v) past gs) (sym goes.0) (subst (λ (fs : List Frame). AllBehind (length v) (newest_first (frames_of v) []) fs) k.0 (later_frames v t)) in
     record {
       reading = (λ j. client_reading a cmds [] ((m.0 ∙ ap (λ fs. frames_of v ++ fs) k.0) j) ((ap plain m.1 ∙ k.1) j)) ∙ goes.1 ∙ ap (λ (past : Past). client_reading a cmds past gs rest) (sym goes.0);
-      run = client_run_is a (length v) cmds P gs rest i.seen behind i.started i.one;
+      run = client_run_is a (length v) cmds P gs rest i.seen behind i.started (greeted_of a cmds v) i.one;
       rest = ap plain m.1 ∙ k.1;
     }
 
@@ -216,16 +217,17 @@ came_gained a log x first is fine =
     let piece = reads_piece a log x is fine in
     let same = piece.reading in
     let run = piece.run in
-    let r = client_run a (awaiting cmds P) (came_frames log x) (came_rest log x) in
+    let r = client_run a (awaiting a cmds P) (came_frames log x) (came_rest log x) in
     record {
       sent = ap (λ (R : ClientReading). sent_all a.first_sequence 0 (sent_by a cmds R.past)) same ∙ ap (sent_all a.first_sequence 0) run.said ∙ bytes_behind a.first_sequence (sent_by a cmds P) r.says first;
       answered = ap (λ (R : ClientReading). answers cmds R.past) same ∙ run.answered;
       fault_is = ap (λ (R : ClientReading). R.fault) same ∙ run.fault_is;
       after_is = λ e.
-          (let waits : awaiting cmds (client_reading_of a cmds all).past ≡ r.after = ap (λ (R : ClientReading). awaiting cmds R.past) same ∙ ap (awaiting cmds) (run.goes_on e) ∙ run.after_is e in
+          (let waits : awaiting a cmds (client_reading_of a cmds all).past ≡ r.after = ap (λ (R : ClientReading). awaiting a cmds R.past) same ∙ ap (awaiting a cmds) (run.goes_on e) ∙ run.after_is e in
           let numbers : number_after a.first_sequence (sent_after 0 (sent_by a cmds (client_reading_of a cmds all).past)) ≡ next_sent (number_after a.first_sequence (sent_after 0 (sent_by a cmds P))) r.says =
           ap (λ (R : ClientReading). number_after a.first_sequence (sent_after 0 (sent_by a cmds R.past))) same ∙ ap (λ l. number_after a.first_sequence (sent_after 0 l)) run.said ∙ number_behind a.first_sequence (sent_by a cmds P) r.says first in
           λ j. record {
+            reverse = (waits j).reverse;
             known = (waits j).known;
             closed = is_closed cmds;
             pending = (waits j).pending;
@@ -289,14 +291,15 @@ told_gained a log now act first is fine =
     let place : bytes_in P ≤ length v = omega (arith, bytes_of_frames v, ap bytes_in goes.0) in
     let ids = fresh a cmds [] (frames_of v) (plain (rest_of v)) (record { ended = λ id le. refl; opened = λ id le. refl }) in
     let said : sent_by a (c ∷ cmds) P ≡ sent_by a cmds P ++ says =
-    (λ j. greets a P ++ opens a P ++ (commands_say a cmds P ++ act_says a (next_id cmds) m (client_known (come_by_all (length v) P place j)) act))
+    (λ j. greets a P ++ (opens a P ++ (commands_say a cmds P ++ act_says a (next_id cmds) m (client_known (come_by_all (length v) P place j)) act)))
     ∙ sym (append_assoc (greets a P) (opens a P ++ commands_say a cmds P) says ∙ ap (λ l. greets a P ++ l) (append_assoc (opens a P) (commands_say a cmds P) says)) in
     record {
       sent = ap (λ (R : ClientReading). sent_all a.first_sequence 0 (sent_by a (c ∷ cmds) R.past)) same ∙ ap (sent_all a.first_sequence 0) said ∙ bytes_behind a.first_sequence (sent_by a cmds P) says first;
       answered = ap (λ (R : ClientReading). answers (c ∷ cmds) R.past) same ∙ answers_same c cmds P place ∙ sym (append-nil (answers cmds P));
       fault_is = ap (λ (R : ClientReading). R.fault) same ∙ fine;
       after_is = λ e.
-          (let knows = ap (λ (R : ClientReading). client_known R.past) same in
+          (let waits_still = ap (λ (R : ClientReading). awaits_reverse a.reverse R.past) same in
+          let knows = ap (λ (R : ClientReading). client_known R.past) same in
           let waits : waiting_in (c ∷ cmds) (client_reading_of a (c ∷ cmds) v).past ≡ waiting_in cmds P ++ more_waiting (next_id cmds) act =
           ap (λ (R : ClientReading). waiting_in (c ∷ cmds) R.past) same ∙ waiting_with c cmds P (ids.ended (next_id cmds) (omega arith)) in
           let due : due_in (c ∷ cmds) (client_reading_of a (c ∷ cmds) v).past ≡ due_with (due_in cmds P) (next_id cmds) act =
@@ -305,6 +308,7 @@ told_gained a log now act first is fine =
           ap (λ (R : ClientReading). number_after a.first_sequence (sent_after 0 (sent_by a (c ∷ cmds) R.past))) same ∙ ap (λ l. number_after a.first_sequence (sent_after 0 l)) said ∙ number_behind a.first_sequence (sent_by a cmds P) says first in
           let next : next_id (c ∷ cmds) ≡ next_id cmds + 1 = omega arith in
           λ j. record {
+            reverse = waits_still j;
             known = knows j;
             closed = closed_with act (is_closed cmds) j;
             pending = waits j;

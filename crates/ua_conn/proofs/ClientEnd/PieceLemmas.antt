@@ -17,7 +17,7 @@ use Rattle.ua_conn.specs.declared.client.fault.ClientFault.{ClientFault}
 use Rattle.ua_conn.specs.declared.client.fault.ClientFault.TheVariants.{ServerSaid, Broken, NoMemory, Ended}
 use Rattle.ua_conn.proofs.ClientEnd.GainLemmas.{sent_is_next, came_sent, came_gained}
 
--- ---- what frames do depends on the configuration of a client alone
+-- ---- what frames do depends on the configuration of a client alone, and on what it waits for
 
 same_run : (a : Asker) (w : Awaiting) (fs : List Frame) (rest : List ℕ) → client_run a w fs rest ≡ client_run (asker_with a.config) w fs rest
 unfolding client_fault_by
@@ -47,6 +47,7 @@ came old x = client_run_on (asker_with old.config) (awaiting_of old.held) (max o
 
 abbrev held_then : ClientShown → Piece → ClientRun → ClientHeld
 held_then old x r = record old.held {
+  reverse = r.after.reverse;
   known = r.after.known;
   pending = r.after.pending;
   due = r.after.due;
@@ -69,6 +70,7 @@ pub hands : (old shown : ClientShown) (x : Piece) (moment : ℕ) (new : ClientRu
     shown ≡ record {
       config = new.config;
       held = record old.held {
+        reverse = new.waits.reverse;
         known = new.waits.known;
         pending = new.waits.pending;
         due = new.waits.due;
@@ -88,7 +90,7 @@ hands old shown x moment new given left h s a log l =
       shows = s
           ∙ (λ i. record old {
             config = h.config i;
-            held = record old.held { known = (h.waits i).known; pending = (h.waits i).pending; due = (h.waits i).due; next = h.number i; moment = max old.held.moment x.moment; rest = h.rest i };
+            held = record old.held { reverse = (h.waits i).reverse; known = (h.waits i).known; pending = (h.waits i).pending; due = (h.waits i).due; next = h.number i; moment = max old.held.moment x.moment; rest = h.rest i };
             output = shown.output;
           })
           ∙ (λ i. record old { held = sym (g.after_is h.fine) i; output = shown.output });

@@ -13,7 +13,7 @@ use Rattle.ua_conn.specs.Past.{Past, carried}
 use Rattle.ua_conn.specs.server.Held.{newest_first}
 use Rattle.ua_conn.specs.client.Asker.{Asker}
 use Rattle.ua_conn.specs.client.Commands.{Act, Ask, Renew, Close, Command, Commands, Asked, OpenAsked, asked_in, asked_by, opens_asked, opens_by, next_id, request_under}
-use Rattle.ua_conn.specs.client.Past.{client_known}
+use Rattle.ua_conn.specs.client.Past.{client_known, awaits_reverse}
 use Rattle.ua_conn.specs.client.Pending.{bytes_in, is_among, ended_ids, opened_ids, wanted_at, due_at, first_id}
 use Rattle.ua_conn.specs.client.Faults.{client_fault_by, token_usable}
 use Rattle.ua_conn.specs.client.Reading.{ClientReading, client_fault_at, client_reading, client_reading_of}
@@ -105,7 +105,7 @@ same_fault : (a : Asker) (c : Command) (cmds : Commands) (past : Past) (f : Fram
 same_fault a c cmds past f le =
     let k = client_known past in
     let end = bytes_in (f ∷ past) in
-    λ i. client_fault_by a k (same_due c cmds past end le i) (same_wanted c cmds past end (carried f).request_id le i) (token_usable k f) f
+    λ i. client_fault_by a (awaits_reverse a.reverse past) k (same_due c cmds past end le i) (same_wanted c cmds past end (carried f).request_id le i) (token_usable k f) f
 
 same_reading : (a : Asker) (c : Command) (cmds : Commands) (past : Past) (fs : List Frame) (rest : List ℕ) → AllWithin c.seen past fs → client_reading a (c ∷ cmds) past fs rest ≡ client_reading a cmds past fs rest
 same_reading a c cmds past [] rest h = refl

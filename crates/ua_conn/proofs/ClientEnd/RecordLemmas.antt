@@ -11,7 +11,7 @@ use Rattle.ua_service.specs.declared.request.Request.{Request}
 use Rattle.ua_conn.specs.Past.{Past, carried}
 use Rattle.ua_conn.specs.client.Asker.{Asker}
 use Rattle.ua_conn.specs.client.Commands.{Act, Ask, Renew, Close, Commands, Asked, OpenAsked, asked_in, asked_by, opens_asked, opens_by, next_id, request_under, is_closed}
-use Rattle.ua_conn.specs.client.Past.{client_known}
+use Rattle.ua_conn.specs.client.Past.{client_known, awaits_reverse}
 use Rattle.ua_conn.specs.client.Pending.{bytes_in, is_among, ends_one, ended_ids, opened_ids, pending_in, wanted_at, due_in, due_at, first_id}
 use Rattle.ua_conn.specs.client.Faults.{client_fault_by, token_usable}
 use Rattle.ua_conn.specs.client.Reading.{client_fault_at, client_reading_of}
@@ -83,15 +83,15 @@ pub due_is : (n end : ℕ) (cmds : Commands) (past : Past) → n < end → AllSe
 due_is n end cmds past lt h = ap first_id (sym (all_opens n end cmds lt h (λ r. not (is_among (opened_ids past) r.id))))
 
 -- what waits behind some frames
-abbrev pub awaiting : Commands → Past → Awaiting
-awaiting cmds past = record { known = client_known past; pending = waiting_in cmds past; due = due_in cmds past }
+abbrev pub awaiting : Asker → Commands → Past → Awaiting
+awaiting a cmds past = record { reverse = awaits_reverse a.reverse past; known = client_known past; pending = waiting_in cmds past; due = due_in cmds past }
 
 -- a frame that comes later is refused by what is held
-pub fault_is_held : (a : Asker) (n : ℕ) (cmds : Commands) (past : Past) (f : Frame) → n < bytes_in (f ∷ past) → AllSeen n cmds → awaiting_fault a (awaiting cmds past) f ≡ client_fault_at a cmds past f
+pub fault_is_held : (a : Asker) (n : ℕ) (cmds : Commands) (past : Past) (f : Frame) → n < bytes_in (f ∷ past) → AllSeen n cmds → awaiting_fault a (awaiting a cmds past) f ≡ client_fault_at a cmds past f
 fault_is_held a n cmds past f lt h =
     let k = client_known past in
     let end = bytes_in (f ∷ past) in
-    λ i. client_fault_by a k (due_is n end cmds past lt h i) (wanted_is n end (carried f).request_id cmds past lt h i) (token_usable k f) f
+    λ i. client_fault_by a (awaits_reverse a.reverse past) k (due_is n end cmds past lt h i) (wanted_is n end (carried f).request_id cmds past lt h i) (token_usable k f) f
 
 -- what waits behind one more frame
 without_same : (id : ℕ) (ids : List ℕ) (xs : List Asked) → map (λ a. (a.id, a.request)) (filter (λ a. not (is_among (id ∷ ids) a.id)) xs) ≡ without id (map (λ a. (a.id, a.request)) (filter (λ a. not (is_among ids a.id)) xs))

@@ -8,12 +8,12 @@ use Rattle.ua_frame.specs.declared.acknowledge.Ack.{Ack}
 use Rattle.ua_service.specs.declared.request.Request.{Request}
 use Rattle.ua_conn.specs.Past.{Past, is_open, carried, open_in}
 use Rattle.ua_conn.specs.server.Held.{newest_first}
-use Rattle.ua_conn.specs.client.Asker.{Asker}
+use Rattle.ua_conn.specs.client.Asker.{Asker, hello_by}
 use Rattle.ua_conn.specs.client.Commands.{Commands, OpenAsked, opens_asked}
-use Rattle.ua_conn.specs.client.Past.{client_known, acknowledge_frame_in, is_acknowledge_frame, or_frame, ack_by}
+use Rattle.ua_conn.specs.client.Past.{client_known, acknowledge_frame_in, is_acknowledge, is_acknowledge_frame, is_reverse_frame, awaits_reverse, or_frame, ack_by, acknowledge_in}
 use Rattle.ua_conn.specs.client.Pending.{bytes_in, is_among, opening_id, opened_ids, opening_in, due_in, first_id}
 use Rattle.ua_conn.specs.client.Reading.{ClientReading, client_fault_at, client_reading, answer_at, answers}
-use Rattle.ua_conn.specs.client.Sending.{Sent, greets, opens_by, commands_say, sent_by}
+use Rattle.ua_conn.specs.client.Sending.{Sent, Greeting, greets_by, greets, opens, opens_by, commands_say, sent_by}
 use Rattle.ua_conn.specs.client.Machine.{Awaiting, awaiting_after, unless_id, frame_says, frame_answers, ClientRun, ahead_of, client_run}
 use Rattle.ua_conn.specs.declared.client.answer.Answer.{Answer}
 use Rattle.ua_conn.specs.declared.client.fault.ClientFault.{ClientFault}
@@ -21,6 +21,7 @@ use Rattle.ua_conn.proofs.ClientEnd.PlaceLemmas.{AllBehind}
 use Rattle.ua_conn.proofs.BothEnds.FaithfulLemmas.{AllSeen, IsStarted, untold, acknowledged, commands_same, or_some}
 use Rattle.ua_conn.proofs.ClientEnd.KnownLemmas.{client_known_step, found}
 use Rattle.ua_conn.proofs.ClientEnd.RecordLemmas.{awaiting, fault_is_held, waiting_step, wanted_is}
+use Rattle.ua_conn.proofs.ClientEnd.GreetingLemmas.{reverse_step, stands_reverse, is_one, awaited_no_more, IsGreeted, unheard, greeted, greets_same}
 
 -- ---- one open request is pending at most
 
@@ -85,14 +86,19 @@ due_step cmds past f h = ap first_id (opening_step cmds past f) ∙ by (is_open 
     by false = refl
 
 -- what waits behind one more frame
-pub awaiting_step : (cmds : Commands) (past : Past) (f : Frame) → AtMostOne cmds past → awaiting cmds (f ∷ past) ≡ awaiting_after (awaiting cmds past) f
-awaiting_step cmds past f h = λ i. record { known = client_known_step f past i; pending = waiting_step cmds past f i; due = due_step cmds past f h i }
+pub awaiting_step : (a : Asker) (cmds : Commands) (past : Past) (f : Frame) → AtMostOne cmds past → awaiting a cmds (f ∷ past) ≡ awaiting_after (awaiting a cmds past) f
+awaiting_step a cmds past f h = λ i. record { reverse = reverse_step a.reverse past f i; known = client_known_step f past i; pending = waiting_step cmds past f i; due = due_step cmds past f h i }
 
 -- ---- what is sent at one more frame
 
-says_step : (a : Asker) (n : ℕ) (cmds : Commands) (past : Past) (f : Frame) → AllSeen n cmds → n < bytes_in (f ∷ past) → IsStarted cmds past → sent_by a cmds (f ∷ past) ≡ sent_by a cmds past ++ frame_says a (awaiting cmds past) f
+-- the first open request, at the first Acknowledge
+abbrev opens_at : Asker → Past → Frame → List Sent
+opens_at a past f = cond (not (is_some (client_known past).ack) && is_acknowledge_frame f) (opens_by a (Some f)) []
+
+opens_step : (a : Asker) (n : ℕ) (cmds : Commands) (past : Past) (f : Frame) → AllSeen n cmds → n < bytes_in (f ∷ past) → IsStarted cmds past →
+    (greets a past ++ (opens a (f ∷ past) ++ commands_say a cmds (f ∷ past))) ≡ sent_by a cmds past ++ opens_at a past f
 unfolding client_known
-says_step a n cmds past f seen lt started = by (acknowledge_frame_in past) refl started
+opens_step a n cmds past f seen lt started = by (acknowledge_frame_in past) refl started
   where
     test : Bool
     test = is_acknowledge_frame f
@@ -103,20 +109,58 @@ says_step a n cmds past f seen lt started = by (acknowledge_frame_in past) refl 
     silent : (o : Option Frame) (ack : Ack) → ack_by o ≡ Some ack → cond (not (is_some (ack_by o)) && test) (opens_by a (Some f)) [] ≡ []
     silent o ack e = rw e refl
 
-    says : (b : Bool) → (greets a past ++ opens_by a (cond b (Some f) None) ++ []) ≡ (greets a past ++ opens_by a None ++ []) ++ cond b (opens_by a (Some f)) []
-    says true = refl
-    says false = refl
+    says : (b : Bool) → (greets a past ++ (opens_by a (cond b (Some f) None) ++ [])) ≡ (greets a past ++ []) ++ cond b (opens_by a (Some f)) []
+    says true = ap (λ l. l ++ opens_by a (Some f)) (sym (append-nil (greets a past)))
+    says false = ap (λ l. l ++ []) (sym (append-nil (greets a past)))
 
-    by : (o : Option Frame) → acknowledge_frame_in past ≡ o → IsStarted cmds past → sent_by a cmds (f ∷ past) ≡ sent_by a cmds past ++ frame_says a (awaiting cmds past) f
+    by : (o : Option Frame) → acknowledge_frame_in past ≡ o → IsStarted cmds past → (greets a past ++ (opens a (f ∷ past) ++ commands_say a cmds (f ∷ past))) ≡ sent_by a cmds past ++ opens_at a past f
     by (Some g) e s =
         let ack = found past g e in
-        (λ i. greets a past ++ opens_by a ((or_some (acknowledge_frame_in past) g f test e ∙ sym e) i) ++ same i)
+        (λ i. greets a past ++ (opens_by a ((or_some (acknowledge_frame_in past) g f test e ∙ sym e) i) ++ same i))
         ∙ sym (append-nil (sent_by a cmds past))
         ∙ ap (λ l. sent_by a cmds past ++ l) (sym (silent (acknowledge_frame_in past) ack.0 (ap ack_by e ∙ ack.1)))
-    by None e (untold none) = subst (λ (cs : Commands). sent_by a cs (f ∷ past) ≡ sent_by a cs past ++ frame_says a (awaiting cs past) f) (sym none)
-        (ap (λ o. greets a past ++ opens_by a (or_frame o test f) ++ []) e ∙ says test
-        ∙ (λ i. (greets a past ++ opens_by a (sym e i) ++ []) ++ cond (not (is_some (ack_by (sym e i))) && test) (opens_by a (Some f)) []))
+    by None e (untold none) = subst (λ (cs : Commands). (greets a past ++ (opens a (f ∷ past) ++ commands_say a cs (f ∷ past))) ≡ sent_by a cs past ++ opens_at a past f) (sym none)
+        (ap (λ o. greets a past ++ (opens_by a (or_frame o test f) ++ [])) e ∙ says test
+        ∙ (λ i. (greets a past ++ (opens_by a (sym e i) ++ [])) ++ cond (not (is_some (ack_by (sym e i))) && test) (opens_by a (Some f)) []))
     by None e (acknowledged g k) = absurd (let c : None ≡ Some g = sym e ∙ k in cc)
+
+-- at the first frame, where a ReverseHello is awaited: the Hello
+reverse_says : (a : Asker) (f : Frame) → awaits_reverse a.reverse [] ≡ true → is_reverse_frame f ≡ true → is_acknowledge_frame f ≡ false →
+    sent_by a [] (f ∷ []) ≡ sent_by a [] [] ++ frame_says a (awaiting a [] []) f
+unfolding client_known
+reverse_says a f h one other = by a.reverse (is_reverse_frame f) (is_acknowledge_frame f) h one other
+  where
+    by : (b t u : Bool) → (b && true) ≡ true → t ≡ true → u ≡ false →
+        (cond b (greets_by a (cond t (Some f) None)) (Greeting (hello_by a) ∷ []) ++ (opens_by a (cond u (Some f) None) ++ []))
+        ≡ (cond b [] (Greeting (hello_by a) ∷ []) ++ []) ++ (cond ((b && true) && t) (greets_by a (Some f)) [] ++ cond u (opens_by a (Some f)) [])
+    by true true false p q r = refl
+    by true true true p q r = absurd (cc r)
+    by true false u p q r = absurd (cc q)
+    by false t u p q r = absurd (cc p)
+
+says_step : (a : Asker) (n : ℕ) (cmds : Commands) (past : Past) (f : Frame) → client_fault_at a cmds past f ≡ None → AllSeen n cmds → n < bytes_in (f ∷ past) → IsStarted cmds past → IsGreeted a past →
+    sent_by a cmds (f ∷ past) ≡ sent_by a cmds past ++ frame_says a (awaiting a cmds past) f
+says_step a n cmds past f h seen lt started g = by (awaits_reverse a.reverse past) refl g
+  where
+    first : cmds ≡ [] → past ≡ [] → awaits_reverse a.reverse past ≡ true → sent_by a cmds (f ∷ past) ≡ sent_by a cmds past ++ frame_says a (awaiting a cmds past) f
+    first none e w =
+        let is = stands_reverse a cmds past f h w in
+        let other : is_acknowledge_frame f ≡ false = ap (λ k. is_acknowledge k && is_some (acknowledge_in f)) is.0 in
+        let one = reverse_says a f (ap (awaits_reverse a.reverse) (sym e) ∙ w) (is_one f is) other in
+        subst (λ (cs : Commands). sent_by a cs (f ∷ past) ≡ sent_by a cs past ++ frame_says a (awaiting a cs past) f) (sym none)
+        (subst (λ (p : Past). sent_by a [] (f ∷ p) ≡ sent_by a [] p ++ frame_says a (awaiting a [] p) f) (sym e) one)
+
+    untold_yet : past ≡ [] → IsStarted cmds past → cmds ≡ []
+    untold_yet e (untold none) = none
+    untold_yet e (acknowledged x k) = absurd (let clash : None ≡ Some x = ap acknowledge_frame_in (sym e) ∙ k in cc clash)
+
+    by : (b : Bool) → awaits_reverse a.reverse past ≡ b → IsGreeted a past → sent_by a cmds (f ∷ past) ≡ sent_by a cmds past ++ frame_says a (awaiting a cmds past) f
+    by true w (greeted k) = absurd (let clash : true ≡ false = sym w ∙ k in cc clash)
+    by true w (unheard e) = first (untold_yet e started) e w
+    by false w g =
+        (λ i. greets_same a past f w i ++ (opens a (f ∷ past) ++ commands_say a cmds (f ∷ past)))
+        ∙ opens_step a n cmds past f seen lt started
+        ∙ (λ i. sent_by a cmds past ++ (cond (sym w i && is_reverse_frame f) (greets_by a (Some f)) [] ++ opens_at a past f))
 
 started_step : (cmds : Commands) (past : Past) (f : Frame) → IsStarted cmds past → IsStarted cmds (f ∷ past)
 started_step cmds past f (untold e) = untold e
@@ -129,34 +173,35 @@ pub record IsClientRun (a : Asker) (cmds : Commands) (past : Past) (fs : List Fr
   pub answered : answers cmds R.past ≡ answers cmds past ++ r.answers
   pub fault_is : R.fault ≡ r.fault
   pub goes_on : r.fault ≡ None → R.past ≡ newest_first fs past
-  pub after_is : r.fault ≡ None → awaiting cmds (newest_first fs past) ≡ r.after
+  pub after_is : r.fault ≡ None → awaiting a cmds (newest_first fs past) ≡ r.after
 
 cases : (o : Option ClientFault) (a : Asker) (cmds : Commands) (past : Past) (f : Frame) (fs : List Frame) (says : List Sent) (given : List Answer) (R : ClientReading) (r : ClientRun) →
-    sent_by a cmds (f ∷ past) ≡ sent_by a cmds past ++ says → answers cmds (f ∷ past) ≡ answers cmds past ++ given → IsClientRun a cmds (f ∷ past) fs R r →
+    (o ≡ None → sent_by a cmds (f ∷ past) ≡ sent_by a cmds past ++ says) → answers cmds (f ∷ past) ≡ answers cmds past ++ given → (o ≡ None → IsClientRun a cmds (f ∷ past) fs R r) →
     IsClientRun a cmds past (f ∷ fs)
     (elim o [ Some fault ↦ record { past = past; fault = Some fault } | None ↦ R ])
-    (elim o [ Some fault ↦ record { says = []; answers = []; fault = Some fault; after = awaiting cmds past } | None ↦ ahead_of says given r ])
+    (elim o [ Some fault ↦ record { says = []; answers = []; fault = Some fault; after = awaiting a cmds past } | None ↦ ahead_of says given r ])
 cases (Some fault) a cmds past f fs says given R r s g h = record { said = sym (append-nil _); answered = sym (append-nil _); fault_is = refl; goes_on = λ e. absurd (cc e); after_is = λ e. absurd (cc e) }
 cases None a cmds past f fs says given R r s g h = record {
-  said = h.said ∙ ap (λ l. l ++ r.says) s ∙ append_assoc (sent_by a cmds past) says r.says;
-  answered = h.answered ∙ ap (λ l. l ++ r.answers) g ∙ append_assoc (answers cmds past) given r.answers;
-  fault_is = h.fault_is;
-  goes_on = h.goes_on;
-  after_is = h.after_is;
+  said = (h refl).said ∙ ap (λ l. l ++ r.says) (s refl) ∙ append_assoc (sent_by a cmds past) says r.says;
+  answered = (h refl).answered ∙ ap (λ l. l ++ r.answers) g ∙ append_assoc (answers cmds past) given r.answers;
+  fault_is = (h refl).fault_is;
+  goes_on = (h refl).goes_on;
+  after_is = (h refl).after_is;
 }
 
-pub client_run_is : (a : Asker) (n : ℕ) (cmds : Commands) (past : Past) (fs : List Frame) (rest : List ℕ) → AllSeen n cmds → AllBehind n past fs → IsStarted cmds past → AtMostOne cmds past →
-    IsClientRun a cmds past fs (client_reading a cmds past fs rest) (client_run a (awaiting cmds past) fs rest)
-client_run_is a n cmds past [] rest seen b s one = record { said = sym (append-nil _); answered = sym (append-nil _); fault_is = refl; goes_on = λ e. refl; after_is = λ e. refl }
-client_run_is a n cmds past (f ∷ fs) rest seen b s one =
+pub client_run_is : (a : Asker) (n : ℕ) (cmds : Commands) (past : Past) (fs : List Frame) (rest : List ℕ) → AllSeen n cmds → AllBehind n past fs → IsStarted cmds past → IsGreeted a past → AtMostOne cmds past →
+    IsClientRun a cmds past fs (client_reading a cmds past fs rest) (client_run a (awaiting a cmds past) fs rest)
+client_run_is a n cmds past [] rest seen b s g one = record { said = sym (append-nil _); answered = sym (append-nil _); fault_is = refl; goes_on = λ e. refl; after_is = λ e. refl }
+client_run_is a n cmds past (f ∷ fs) rest seen b s g one =
+    let w = awaiting a cmds past in
     let R = client_reading a cmds (f ∷ past) fs rest in
-    let deep = client_run_is a n cmds (f ∷ past) fs rest seen b.1 (started_step cmds past f s) (one_step cmds past f one) in
-    let run : IsClientRun a cmds (f ∷ past) fs R (client_run a (awaiting_after (awaiting cmds past) f) fs rest) =
-    subst (λ (w : Awaiting). IsClientRun a cmds (f ∷ past) fs R (client_run a w fs rest)) (awaiting_step cmds past f one) deep in
-    let given : answers cmds (f ∷ past) ≡ answers cmds past ++ frame_answers (awaiting cmds past) f =
+    let run : client_fault_at a cmds past f ≡ None → IsClientRun a cmds (f ∷ past) fs R (client_run a (awaiting_after w f) fs rest) = λ h.
+    subst (λ (w : Awaiting). IsClientRun a cmds (f ∷ past) fs R (client_run a w fs rest)) (awaiting_step a cmds past f one)
+    (client_run_is a n cmds (f ∷ past) fs rest seen b.1 (started_step cmds past f s) (greeted (awaited_no_more a cmds past f h)) (one_step cmds past f one)) in
+    let given : answers cmds (f ∷ past) ≡ answers cmds past ++ frame_answers w f =
     ap (λ (w : Option Request). answers cmds past ++ answer_at (client_known past) w f) (sym (wanted_is n (bytes_in (f ∷ past)) (carried f).request_id cmds past b.0 seen)) in
     subst (λ (o : Option ClientFault). IsClientRun a cmds past (f ∷ fs) (client_reading a cmds past (f ∷ fs) rest)
-    (elim o [ Some fault ↦ record { says = []; answers = []; fault = Some fault; after = awaiting cmds past } | None ↦ ahead_of (frame_says a (awaiting cmds past) f) (frame_answers (awaiting cmds past) f) (client_run a (awaiting_after (awaiting cmds past) f) fs rest) ]))
+    (elim o [ Some fault ↦ record { says = []; answers = []; fault = Some fault; after = w } | None ↦ ahead_of (frame_says a w f) (frame_answers w f) (client_run a (awaiting_after w f) fs rest) ]))
     (sym (fault_is_held a n cmds past f b.0 seen))
-    (cases (client_fault_at a cmds past f) a cmds past f fs (frame_says a (awaiting cmds past) f) (frame_answers (awaiting cmds past) f) R (client_run a (awaiting_after (awaiting cmds past) f) fs rest)
-    (says_step a n cmds past f seen b.0 s) given run)
+    (cases (client_fault_at a cmds past f) a cmds past f fs (frame_says a w f) (frame_answers w f) R (client_run a (awaiting_after w f) fs rest)
+    (λ h. says_step a n cmds past f h seen b.0 s g) given run)

@@ -12,7 +12,7 @@ use Rattle.ua_service.specs.declared.request.Request.{Request}
 use Rattle.ua_conn.specs.Past.{Past, carried}
 use Rattle.ua_conn.specs.client.Asker.{Asker}
 use Rattle.ua_conn.specs.client.Commands.{Commands}
-use Rattle.ua_conn.specs.client.Past.{ClientKnown, client_known}
+use Rattle.ua_conn.specs.client.Past.{ClientKnown, client_known, awaits_reverse}
 use Rattle.ua_conn.specs.client.Pending.{bytes_in, wanted_at, due_at}
 use Rattle.ua_conn.specs.client.Faults.{greatest_answer, client_rows, client_fault_by, client_fault_in_rest, token_usable}
 use Rattle.ua_conn.specs.client.Reading.{ClientReading, client_fault_at, client_reading, client_reading_of, client_fault}
@@ -49,12 +49,12 @@ rest_more k b y e h =
     ap (option_map Broken) (header_fault_stays (greatest_answer k.ack) b y o.0 o.1) ∙ ap (λ f. Some f) o.2
 
 -- a header that is bad in the bytes is bad in the frame at their front
-bad_whole : (a : Asker) (k : ClientKnown) (due : Option ℕ) (wanted : Option Request) (usable : Bool) (b : List ℕ) (z now : ℕ) (e : ClientFault) → 8 ≤ z → client_fault_in_rest k b ≡ Some e →
-    client_fault_by a k due wanted usable (record { bytes = take z b; moment = now }) ≡ Some e
+bad_whole : (a : Asker) (reverse : Bool) (k : ClientKnown) (due : Option ℕ) (wanted : Option Request) (usable : Bool) (b : List ℕ) (z now : ℕ) (e : ClientFault) → 8 ≤ z → client_fault_in_rest k b ≡ Some e →
+    client_fault_by a reverse k due wanted usable (record { bytes = take z b; moment = now }) ≡ Some e
 unfolding client_fault_by client_fault_in_rest
-bad_whole a k due wanted usable b z now e low h =
+bad_whole a reverse k due wanted usable b z now e low h =
     let f : Frame = record { bytes = take z b; moment = now } in
-    ap (λ o. or_else o (first_row (client_rows a k due wanted usable f (flag_of f.bytes) (kind_of f.bytes)))) (ap (option_map Broken) (header_fault_take (greatest_answer k.ack) z b low) ∙ h)
+    ap (λ o. or_else o (first_row (client_rows a reverse k due wanted usable f (flag_of f.bytes) (kind_of f.bytes)))) (ap (option_map Broken) (header_fault_take (greatest_answer k.ack) z b low) ∙ h)
 
 refuses_cases : (o : Option ClientFault) (past : Past) (R : ClientReading) (e : ClientFault) → o ≡ Some e →
     (let r : ClientReading = elim o [ Some fault ↦ record { past = past; fault = Some fault } | None ↦ R ] in r ≡ record { past = past; fault = Some e })
@@ -73,7 +73,7 @@ bad_reading a cmds past s e h =
     let k = client_known past in
     by_front (λ fs rest. client_reading a cmds past fs rest ≡ record { past = past; fault = Some e }) s
     (λ low fs rest. reading_refuses a cmds past f fs rest e
-    (bad_whole a k (due_at cmds past end) (wanted_at cmds past end (carried f).request_id) (token_usable k f) (plain s) (size_of (plain s)) f.moment e low h))
+    (bad_whole a (awaits_reverse a.reverse past) k (due_at cmds past end) (wanted_at cmds past end (carried f).request_id) (token_usable k f) (plain s) (size_of (plain s)) f.moment e low h))
     (λ i. record { past = past; fault = h i })
 
 -- a stream with a fault, read with what comes later

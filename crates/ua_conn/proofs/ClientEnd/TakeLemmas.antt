@@ -24,7 +24,7 @@ refuses : (b : Bool) (rows : List FaultRow) → b ≡ false → first_row ((not 
 refuses false rows h = refl
 refuses true rows h = absurd (cc)
 
-turned_away : (config : ClientConfig) (w : Awaiting) (f : Frame) (flag : ℕ) (kind : Kind) → (kind ≡ kinds.Error → ⊥) → is_awaited w.known w.due (Some kind) ≡ false →
+turned_away : (config : ClientConfig) (w : Awaiting) (f : Frame) (flag : ℕ) (kind : Kind) → (kind ≡ kinds.Error → ⊥) → is_awaited w.reverse w.known w.due (Some kind) ≡ false →
     first_row (rows_at config w f flag (Some kind)) ≡ Some (Broken 0x807E0000)
 turned_away config w f flag kinds.Hello other h = refuses _ (type_rows_at config w f flag (Some kinds.Hello)) h
 turned_away config w f flag kinds.Acknowledge other h = refuses _ (type_rows_at config w f flag (Some kinds.Acknowledge)) h
@@ -35,7 +35,7 @@ turned_away config w f flag kinds.Message other h = refuses _ (type_rows_at conf
 turned_away config w f flag kinds.Close other h = refuses _ (type_rows_at config w f flag (Some kinds.Close)) h
 
 pub out_of_turn : (old new : ClientRunning) (f : Frame) (kind : Kind) (had : Given) → header_fault (greatest_answer old.waits.known.ack) f.bytes ≡ None → kind_of f.bytes ≡ Some kind → (kind ≡ kinds.Error → ⊥) →
-    is_awaited old.waits.known old.waits.due (Some kind) ≡ false → Takes old new f had had (Err (Broken 0x807E0000))
+    is_awaited old.waits.reverse old.waits.known old.waits.due (Some kind) ≡ false → Takes old new f had had (Err (Broken 0x807E0000))
 out_of_turn old new f kind had h e other turn =
     (by_rows old.config old.waits f h ∙ ap (λ κ. first_row (rows_at old.config old.waits f (flag_of f.bytes) κ)) e ∙ turned_away old.config old.waits f (flag_of f.bytes) kind other turn, refl)
 

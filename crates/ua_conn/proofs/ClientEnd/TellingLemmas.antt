@@ -165,7 +165,7 @@ accepts old new now act none tells =
     )
 
 abbrev with_pending : Awaiting → Option ℕ → List (ℕ × Request) → Awaiting
-with_pending w due pending = record { known = w.known; pending = pending; due = due }
+with_pending w due pending = record { reverse = w.reverse; known = w.known; pending = pending; due = due }
 
 pub asks : (r r' : ClientRunning) (closed failed : Bool) (id moment now part : ℕ) (rest out out' : List ℕ) (request : Request) →
     against (shown_of r closed id moment rest out failed) (Ask request part) ≡ None →

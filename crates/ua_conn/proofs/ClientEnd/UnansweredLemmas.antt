@@ -14,7 +14,7 @@ use Rattle.ua_service.specs.declared.response.Response.{Response}
 use Rattle.ua_conn.specs.Past.{Past, is_message, carried}
 use Rattle.ua_conn.specs.client.Asker.{Asker}
 use Rattle.ua_conn.specs.client.Commands.{Act, Ask, Renew, Close, Commands, Asked, asked_in, asked_by, next_id, request_under}
-use Rattle.ua_conn.specs.client.Past.{ClientKnown, client_known}
+use Rattle.ua_conn.specs.client.Past.{ClientKnown, client_known, awaits_reverse}
 use Rattle.ua_conn.specs.client.Pending.{bytes_in, is_among, ends_one, ended_ids, pending_in, wanted_at, due_at}
 use Rattle.ua_conn.specs.client.Faults.{client_rows, client_fault_by, broken, whole_rows, whole_response, token_usable}
 use Rattle.ua_conn.specs.client.Reading.{client_fault_at, client_reading_of, answer_with, answer_at, answers, result_by, matched}
@@ -58,13 +58,13 @@ record OneAnswer (k : ClientKnown) (wanted : Option Request) (f : Frame) : Type 
   was : wanted ≡ Some request
   is : answer_at k wanted f ≡ record { id = (carried f).request_id; request = request; result = result } ∷ []
 
-one_answer : (a : Asker) (k : ClientKnown) (due : Option ℕ) (wanted : Option Request) (usable : Bool) (f : Frame) → client_fault_by a k due wanted usable f ≡ None → ends_one f ≡ true → OneAnswer k wanted f
+one_answer : (a : Asker) (reverse : Bool) (k : ClientKnown) (due : Option ℕ) (wanted : Option Request) (usable : Bool) (f : Frame) → client_fault_by a reverse k due wanted usable f ≡ None → ends_one f ≡ true → OneAnswer k wanted f
 unfolding answer_at
-one_answer a k due wanted usable f h e =
+one_answer a reverse k due wanted usable f h e =
     let flag = flag_of f.bytes in
     let c = carried f in
     let parts = and_parts (is_message (kind_of f.bytes)) (ends_message flag) e in
-    let no = all_no (client_rows a k due wanted usable f flag (Some kinds.Message)) (rows_of_kind a k due wanted usable f (Some kinds.Message) h (is_message_tells (kind_of f.bytes) parts.0)) in
+    let no = all_no (client_rows a reverse k due wanted usable f flag (Some kinds.Message)) (rows_of_kind a reverse k due wanted usable f (Some kinds.Message) h (is_message_tells (kind_of f.bytes) parts.0)) in
     let q = a_some wanted no.1.1.1.1.1.1.0 in
     let r = some_result (flag == 70) (flag == 65) (whole_response k c) (abort_of c.body) parts.1 no.1.1.1.1.1.1.1.1.0 (whole_row (flag == 70) wanted (whole_response k c) no.1.1.1.1.1.1.1.1.1) in
     record { request = q.0; result = r.0; was = q.1; is = given_one (is_message (kind_of f.bytes)) c.request_id wanted (result_by k flag c) q.0 r.0 parts.0 q.1 r.1 }
@@ -224,7 +224,7 @@ tally_step a cmds past f h t = by (ends_one f) refl
         subst (λ (ns : List ℕ). Tally cmds ns (answers cmds (f ∷ past))) (sym ended) (subst (λ (is : List Answer). Tally cmds (ended_ids past) is) (sym given) t)
     by true e =
         let ended : ended_ids (f ∷ past) ≡ id ∷ ended_ids past = rw e refl in
-        let one = one_answer a k (due_at cmds past end) wanted (token_usable k f) f h e in
+        let one = one_answer a (awaits_reverse a.reverse past) k (due_at cmds past end) wanted (token_usable k f) f h e in
         let x : Answer = record { id = id; request = one.request; result = one.result } in
         let given : answers cmds (f ∷ past) ≡ answers cmds past ++ x ∷ [] = ap (λ (l : List Answer). answers cmds past ++ l) one.is in
         let apart = apart_part (λ (a : Asked). a.id) (λ a. not (is_among (ended_ids past) a.id)) (asked_in cmds) (asked_apart cmds) in

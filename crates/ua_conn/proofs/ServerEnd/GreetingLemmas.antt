@@ -44,10 +44,15 @@ short_by : (b : Bool) → (let o : Option ReverseFault = if b then Some TooLarge
 short_by true e = absurd cc
 short_by false e = refl
 
--- texts of a frame that is not too large
-pub texts_fit : (settings : Configuration) (uri url : Option (List ℕ)) → uri ≡ settings.application.uri → first_url_of settings.endpoints ≡ Some url → reverse_fault settings ≡ None → text_bytes uri + text_bytes url ≤ 4294967279
-texts_fit settings uri url u e fine =
+-- the frame is not too large
+pub frame_fits : (settings : Configuration) (url : Option (List ℕ)) → first_url_of settings.endpoints ≡ Some url → reverse_fault settings ≡ None → length (reverse_hello_frame (reverse_hello_by settings url)) ≤ 8192
+frame_fits settings url e fine =
     let frame = reverse_hello_frame (reverse_hello_by settings url) in
     let none : reverse_fault_at settings (Some url) ≡ None = ap (reverse_fault_at settings) (sym e) ∙ fine in
-    let short = ltb-false 8192 (length frame) (short_by (nat_lt 8192 (length frame)) none) in
+    ltb-false 8192 (length frame) (short_by (nat_lt 8192 (length frame)) none)
+
+-- its texts
+pub texts_fit : (settings : Configuration) (uri url : Option (List ℕ)) → uri ≡ settings.application.uri → first_url_of settings.endpoints ≡ Some url → reverse_fault settings ≡ None → text_bytes uri + text_bytes url ≤ 4294967279
+texts_fit settings uri url u e fine =
+    let short = frame_fits settings url e fine in
     omega (arith, short, frame_size (reverse_hello_by settings url), text_length settings.application.uri, text_length url, ap text_bytes u)

@@ -1,8 +1,9 @@
 -- What a whole frame of each type does to a client, by what it carries: the rows that refuse it, what is waited for then, what is said and answered.
-use Rattle.std.specs.Prelude.{◌≡◌, ℕ, List, [], ◌∷◌, ◌++◌, Option, Some, None, is_none, Result, Ok, Err, if◌then◌else◌}
+use Rattle.std.specs.Prelude.{◌≡◌, ℕ, false, not, List, [], ◌∷◌, ◌++◌, Option, Some, None, is_some, is_none, Result, Ok, Err, if◌then◌else◌}
 use Rattle.ua_frame.specs.Layout.{Frame}
 use Rattle.ua_frame.specs.Rows.{Row, first_row}
 use Rattle.ua_frame.specs.declared.acknowledge.Ack.{Ack}
+use Rattle.ua_frame.specs.declared.reverse_hello.ReverseHello.{ReverseHello}
 use Rattle.ua_chunk.specs.Layout.{OpenChunk, Chunk}
 use Rattle.ua_chunk.specs.Half.{half_after, ends_message}
 use Rattle.ua_channel.specs.Token.{two_newest}
@@ -11,12 +12,12 @@ use Rattle.ua_channel.specs.Admission.{admit_rows}
 use Rattle.ua_service.specs.ChannelMessages.{open_response_of}
 use Rattle.ua_conn.specs.Past.{or_empty, sequence_of, body_of as open_body}
 use Rattle.ua_conn.specs.client.Past.{client_channel, granted_by, channel_named}
-use Rattle.ua_conn.specs.client.Asker.{Asker}
+use Rattle.ua_conn.specs.client.Asker.{Asker, hello_to}
 use Rattle.ua_conn.specs.client.Pending.{opening_id}
-use Rattle.ua_conn.specs.client.Faults.{FaultRow, broken, acknowledge_rows, opened_rows, answer_rows}
+use Rattle.ua_conn.specs.client.Faults.{FaultRow, broken, reverse_rows, acknowledge_rows, opened_rows, answer_rows}
 use Rattle.ua_conn.specs.client.Questions.{open_asked_body}
 use Rattle.ua_conn.specs.client.Reading.{answer_with, result_by}
-use Rattle.ua_conn.specs.client.Sending.{Sent, Opening}
+use Rattle.ua_conn.specs.client.Sending.{Sent, Greeting, Opening}
 use Rattle.ua_conn.specs.client.Machine.{Awaiting, waiting_under, without, unless_id, awaiting_fault, awaiting_after, frame_says, frame_answers, sent_next, next_sent}
 use Rattle.ua_conn.specs.client.Taking.{ClientRunning}
 use Rattle.ua_conn.specs.declared.client.config.ClientConfig.{ClientConfig}
@@ -24,9 +25,9 @@ use Rattle.ua_conn.specs.declared.client.fault.ClientFault.{ClientFault}
 use Rattle.ua_conn.specs.declared.client.fault.ClientFault.TheVariants.{NoMemory, Ended}
 use Rattle.ua_conn.specs.declared.client.answer.Answer.{Answer}
 
--- A client with this configuration. What frames do to it depends on nothing else of it.
+-- A client with this configuration. What frames do to it depends on nothing else of it but whether a ReverseHello is awaited.
 abbrev pub asker_with : ClientConfig → Asker
-asker_with config = record { config = config; url = None; first_sequence = 1 }
+asker_with config = record { config = config; url = None; first_sequence = 1; reverse = false }
 
 pub record ClientEffect : Type 0 where
   pub rows : List FaultRow
@@ -35,6 +36,19 @@ pub record ClientEffect : Type 0 where
   pub gives : List Answer
 
 -- ---- of each type
+
+-- the Hello, with the url that the server names
+abbrev pub greets_at : ClientConfig → Option ReverseHello → List Sent
+greets_at config None = []
+greets_at config (Some hello) = Greeting (hello_to config hello.endpoint_url) ∷ []
+
+abbrev pub reverse_effect : ClientConfig → Awaiting → Option ReverseHello → ClientEffect
+reverse_effect config w hello = record {
+  rows = broken (reverse_rows hello);
+  waits = record w { reverse = not (is_some hello) };
+  says = greets_at config hello;
+  gives = [];
+}
 
 -- the first open request
 abbrev pub opens_at : ClientConfig → ℕ → Option Ack → List Sent

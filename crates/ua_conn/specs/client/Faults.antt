@@ -3,11 +3,12 @@ use Rattle.std.specs.Prelude.{ℕ, Bool, true, false, not, ◌&&◌, ◌||◌, �
 use Rattle.ua_frame.specs.Layout.{Frame, kind_of, flag_of, fields_of}
 use Rattle.ua_frame.specs.Rows.{Row, first_row, or_else}
 use Rattle.ua_frame.specs.HeaderRows.{header_fault}
-use Rattle.ua_frame.specs.Hello.{is_acceptable}
+use Rattle.ua_frame.specs.Hello.{is_acceptable, is_long}
 use Rattle.ua_frame.specs.declared.kind.Kind.{Kind}
 use Rattle.ua_frame.specs.declared.kind.Kind.TheVariants as kinds
 use Rattle.ua_frame.specs.declared.acknowledge.Ack.{Ack}
 use Rattle.ua_frame.specs.declared.error_frame.ErrorFrame.{ErrorFrame}
+use Rattle.ua_frame.specs.declared.reverse_hello.ReverseHello.{ReverseHello}
 use Rattle.ua_chunk.specs.Layout.{OpenChunk, Chunk, chunk_of}
 use Rattle.ua_chunk.specs.Half.{body_of, other_request_id, message_too_large, abort_malformed}
 use Rattle.ua_channel.specs.Token.{is_usable}
@@ -21,7 +22,7 @@ use Rattle.ua_service.specs.declared.response.Response.TheVariants as responses
 use Rattle.ua_service.specs.ChannelMessages.{open_response_of}
 use Rattle.ua_service.specs.Responses.{response_of}
 use Rattle.ua_conn.specs.Past.{is_open, is_message, carried, open_in}
-use Rattle.ua_conn.specs.client.Past.{ClientKnown, client_channel, is_acknowledge, acknowledge_in, error_in}
+use Rattle.ua_conn.specs.client.Past.{ClientKnown, client_channel, is_acknowledge, acknowledge_in, error_in, is_reverse, reverse_in}
 use Rattle.ua_conn.specs.client.Asker.{Asker, hello_by}
 use Rattle.ua_conn.specs.declared.client.fault.ClientFault.{ClientFault}
 use Rattle.ua_conn.specs.declared.client.fault.ClientFault.TheVariants.{ServerSaid, Broken}
@@ -41,12 +42,13 @@ abbrev pub greatest_answer : Option Ack → ℕ
 greatest_answer None = 8192
 greatest_answer (Some ack) = ack.send
 
--- First an Acknowledge, then an OPN, then MSG, and OPN while a renewal is pending.
-abbrev pub is_awaited : ClientKnown → Option ℕ → Option Kind → Bool
-is_awaited k due kind =
-    if is_none k.ack then is_acknowledge kind
+-- A ReverseHello while one is awaited; then an Acknowledge, then an OPN, then MSG, and OPN while a renewal is pending.
+abbrev pub is_awaited : Bool → ClientKnown → Option ℕ → Option Kind → Bool
+is_awaited reverse k due kind =
+    if reverse then is_reverse kind
+    else (if is_none k.ack then is_acknowledge kind
     else (if length k.tokens == 0 then is_open kind
-    else is_message kind || (is_open kind && is_some due))
+    else is_message kind || (is_open kind && is_some due)))
 
 -- ---- an ERR
 
@@ -54,6 +56,13 @@ is_awaited k due kind =
 abbrev pub error_rows : Option ErrorFrame → List FaultRow
 error_rows None = (true, Broken 0x80070000) ∷ []
 error_rows (Some e) = (true, ServerSaid e.status e.reason) ∷ []
+
+-- ---- an RHE
+
+-- reverse hello layout; url too long. The server's URI may be any.
+abbrev pub reverse_rows : Option ReverseHello → List Row
+reverse_rows None = (true, 0x80070000) ∷ []
+reverse_rows (Some hello) = (is_long hello.endpoint_url, 0x80830000) ∷ []
 
 -- ---- an ACK
 
@@ -133,20 +142,21 @@ answer_rows a k wanted flag chunk =
 
 -- the rows of the frame's type
 abbrev pub awaited_rows : Asker → ClientKnown → Option ℕ → Option Request → Bool → Frame → ℕ → Option Kind → List FaultRow
+awaited_rows a k due wanted usable f flag (Some kinds.ReverseHello) = broken (reverse_rows (reverse_in f))
 awaited_rows a k due wanted usable f flag (Some kinds.Acknowledge) = broken (acknowledge_rows a (acknowledge_in f))
 awaited_rows a k due wanted usable f flag (Some kinds.Open) = opened_rows k due (open_in f)
 awaited_rows a k due wanted usable f flag (Some kinds.Message) = broken (answer_admitted_rows k usable f ++ answer_rows a k wanted flag (carried f))
 awaited_rows a k due wanted usable f flag kind = []
 
 -- An ERR may come at any time; of any other frame, type out of turn, and the rows of the type.
-abbrev pub client_rows : Asker → ClientKnown → Option ℕ → Option Request → Bool → Frame → ℕ → Option Kind → List FaultRow
-client_rows a k due wanted usable f flag (Some kinds.Error) = error_rows (error_in f)
-client_rows a k due wanted usable f flag kind = (not (is_awaited k due kind), Broken 0x807E0000) ∷ awaited_rows a k due wanted usable f flag kind
+abbrev pub client_rows : Asker → Bool → ClientKnown → Option ℕ → Option Request → Bool → Frame → ℕ → Option Kind → List FaultRow
+client_rows a reverse k due wanted usable f flag (Some kinds.Error) = error_rows (error_in f)
+client_rows a reverse k due wanted usable f flag kind = (not (is_awaited reverse k due kind), Broken 0x807E0000) ∷ awaited_rows a k due wanted usable f flag kind
 
--- The whole table, at a whole frame. Whether its token is usable is said apart.
-unfoldable pub client_fault_by : Asker → ClientKnown → Option ℕ → Option Request → Bool → Frame → Option ClientFault
-client_fault_by a k due wanted usable f =
-    or_else (option_map Broken (header_fault (greatest_answer k.ack) f.bytes)) (first_row (client_rows a k due wanted usable f (flag_of f.bytes) (kind_of f.bytes)))
+-- The whole table, at a whole frame. Whether a ReverseHello is awaited, and whether its token is usable, is said apart.
+unfoldable pub client_fault_by : Asker → Bool → ClientKnown → Option ℕ → Option Request → Bool → Frame → Option ClientFault
+client_fault_by a reverse k due wanted usable f =
+    or_else (option_map Broken (header_fault (greatest_answer k.ack) f.bytes)) (first_row (client_rows a reverse k due wanted usable f (flag_of f.bytes) (kind_of f.bytes)))
 
 -- its token is one of the two newest, and alive at its moment
 abbrev pub token_usable : ClientKnown → Frame → Bool

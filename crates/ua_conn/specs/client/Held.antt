@@ -5,7 +5,7 @@ use Rattle.ua_chunk.specs.Numbers.{number_after}
 use Rattle.ua_channel.specs.ClientChannel.{renewal_due}
 use Rattle.ua_service.specs.declared.request.Request.{Request}
 use Rattle.ua_conn.specs.Past.{Past}
-use Rattle.ua_conn.specs.client.Past.{ClientKnown, client_known}
+use Rattle.ua_conn.specs.client.Past.{ClientKnown, client_known, awaits_reverse}
 use Rattle.ua_conn.specs.client.Asker.{Asker}
 use Rattle.ua_conn.specs.client.Commands.{Act, Commands, next_id, is_closed}
 use Rattle.ua_conn.specs.client.Pending.{pending_in, due_in}
@@ -61,6 +61,8 @@ IsLog a (Told now act ∷ log) = (refused_in a log act ≡ None) × IsLog a log
 
 -- The rest has no moments: no beginning of it is a frame, so its frame ends with a byte that is still to come.
 pub record ClientHeld : Type 0 where
+  -- the server opens the connection, and its ReverseHello is awaited
+  pub reverse : Bool
   -- Acknowledge, channel, two newest tokens, last number, half received message
   pub known : ClientKnown
   -- the client was told to close
@@ -84,6 +86,7 @@ client_held a log =
     let cmds = commands_of log in
     let past = (client_reading_of a cmds (stream_of log)).past in
     record {
+      reverse = awaits_reverse a.reverse past;
       known = client_known past;
       closed = is_closed cmds;
       pending = waiting_in cmds past;

@@ -11,11 +11,11 @@ use Rattle.ua_conn.specs.Past.{is_open, is_message, has_number, carried, open_in
 use Rattle.ua_conn.specs.server.Machine.{half_then}
 use Rattle.ua_conn.specs.client.Asker.{Asker}
 use Rattle.ua_conn.specs.client.Commands.{Act, Ask, Renew, closes}
-use Rattle.ua_conn.specs.client.Past.{ClientKnown, is_acknowledge_frame, acknowledge_in, response_in, granted_by, channel_named}
+use Rattle.ua_conn.specs.client.Past.{ClientKnown, is_acknowledge_frame, acknowledge_in, is_reverse_frame, response_in, granted_by, channel_named}
 use Rattle.ua_conn.specs.client.Pending.{ends_one, opening_id}
 use Rattle.ua_conn.specs.client.Faults.{client_fault_by, client_fault_in_rest, token_usable}
 use Rattle.ua_conn.specs.client.Reading.{answer_at}
-use Rattle.ua_conn.specs.client.Sending.{Sent, opens_by, act_says, has_place, sent_bytes}
+use Rattle.ua_conn.specs.client.Sending.{Sent, greets_by, opens_by, act_says, has_place, sent_bytes}
 use Rattle.ua_conn.specs.client.Held.{Event, Came, Told, ClientHeld, ClientGain}
 use Rattle.ua_conn.specs.declared.client.fault.ClientFault.{ClientFault}
 use Rattle.ua_conn.specs.declared.client.answer.Answer.{Answer}
@@ -37,12 +37,14 @@ client_known_after k f = record {
 -- ---- what waits for frames
 
 pub record Awaiting : Type 0 where
+  -- a ReverseHello is
+  pub reverse : Bool
   pub known : ClientKnown
   pub pending : List (ℕ × Request)
   pub due : Option ℕ
 
 abbrev pub awaiting_of : ClientHeld → Awaiting
-awaiting_of h = record { known = h.known; pending = h.pending; due = h.due }
+awaiting_of h = record { reverse = h.reverse; known = h.known; pending = h.pending; due = h.due }
 
 -- the pending request of that id
 abbrev pub waiting_under : ℕ → List (ℕ × Request) → Option Request
@@ -57,6 +59,7 @@ unless_id (Some due) id = if id == due then None else Some due
 
 abbrev pub awaiting_after : Awaiting → Frame → Awaiting
 awaiting_after w f = record {
+  reverse = w.reverse && not (is_reverse_frame f);
   known = client_known_after w.known f;
   pending = if ends_one f then without (carried f).request_id w.pending else w.pending;
   due = if is_open (kind_of f.bytes) then unless_id w.due (opening_id (open_in f)) else w.due;
@@ -64,11 +67,13 @@ awaiting_after w f = record {
 
 -- the row that refuses the frame
 abbrev pub awaiting_fault : Asker → Awaiting → Frame → Option ClientFault
-awaiting_fault a w f = client_fault_by a w.known w.due (waiting_under (carried f).request_id w.pending) (token_usable w.known f) f
+awaiting_fault a w f = client_fault_by a w.reverse w.known w.due (waiting_under (carried f).request_id w.pending) (token_usable w.known f) f
 
--- what is sent at the frame: the first open request, at the first Acknowledge
+-- what is sent at the frame: the Hello, at the ReverseHello that was awaited; the first open request, at the first Acknowledge
 abbrev pub frame_says : Asker → Awaiting → Frame → List Sent
-frame_says a w f = if not (is_some w.known.ack) && is_acknowledge_frame f then opens_by a (Some f) else []
+frame_says a w f =
+    (if w.reverse && is_reverse_frame f then greets_by a (Some f) else [])
+    ++ (if not (is_some w.known.ack) && is_acknowledge_frame f then opens_by a (Some f) else [])
 
 -- what the frame answers
 abbrev pub frame_answers : Awaiting → Frame → List Answer
@@ -125,6 +130,7 @@ came_gain a h now bytes r = record {
   answers = r.answers;
   fault = r.fault;
   after = record h {
+    reverse = r.after.reverse;
     known = r.after.known;
     pending = r.after.pending;
     due = r.after.due;

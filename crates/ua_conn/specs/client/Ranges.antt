@@ -1,5 +1,5 @@
 -- What a client's connection is made of, and the ranges that its numbers keep to.
-use Rattle.std.specs.Prelude.{◌≡◌, ℕ, ◌<◌, ◌≤◌, ◌^◌, List, Option, IfSome, false, length}
+use Rattle.std.specs.Prelude.{◌≡◌, ℕ, ◌<◌, ◌≤◌, ◌^◌, Bool, List, Option, IfSome, false, length}
 use Rattle.ua_frame.specs.declared.acknowledge.Ack.{Ack}
 use Rattle.ua_chunk.specs.Gathered.{Gathered}
 use Rattle.ua_chunk.specs.NumberLaws.{IsNumber}
@@ -37,10 +37,10 @@ pub record IsRunning (config : ClientConfig) (ack : Option Ack) (half : Gathered
 abbrev pub client_known_of : Option Ack → Shown → Option Half → ClientKnown
 client_known_of ack channel half = record { ack = ack; channel = channel.channel.id; tokens = channel.channel.tokens; last = channel.channel.last; half = half }
 
-abbrev pub client_running_of : ClientConfig → Option Ack → Shown → Option Half → List (ℕ × Request) → Option ℕ → ℕ → ClientRunning
-client_running_of config ack channel half pending due next = record {
+abbrev pub client_running_of : ClientConfig → Bool → Option Ack → Shown → Option Half → List (ℕ × Request) → Option ℕ → ℕ → ClientRunning
+client_running_of config reverse ack channel half pending due next = record {
   config = config;
-  waits = record { known = client_known_of ack channel half; pending = pending; due = due };
+  waits = record { reverse = reverse; known = client_known_of ack channel half; pending = pending; due = due };
   next = next;
   moment = channel.moment;
 }

@@ -5,7 +5,7 @@ use Rattle.ua_frame.specs.Layout.{Frame, frames_of, kind_of, flag_of}
 use Rattle.ua_chunk.specs.Layout.{Chunk, abort_of}
 use Rattle.ua_service.specs.declared.request.Request.{Request}
 use Rattle.ua_conn.specs.Past.{Past, is_message, carried}
-use Rattle.ua_conn.specs.client.Past.{ClientKnown, client_known}
+use Rattle.ua_conn.specs.client.Past.{ClientKnown, client_known, awaits_reverse}
 use Rattle.ua_conn.specs.client.Asker.{Asker}
 use Rattle.ua_conn.specs.client.Commands.{Commands}
 use Rattle.ua_conn.specs.client.Pending.{bytes_in, wanted_at, due_at}
@@ -22,7 +22,7 @@ abbrev pub client_fault_at : Asker → Commands → Past → Frame → Option Cl
 client_fault_at a cmds past f =
     let k = client_known past in
     let end = bytes_in (f ∷ past) in
-    client_fault_by a k (due_at cmds past end) (wanted_at cmds past end (carried f).request_id) (token_usable k f) f
+    client_fault_by a (awaits_reverse a.reverse past) k (due_at cmds past end) (wanted_at cmds past end (carried f).request_id) (token_usable k f) f
 
 -- the frames that stand, and the fault
 pub record ClientReading : Type 0 where

@@ -10,8 +10,8 @@ use Rattle.ua_chunk.specs.Written.{open_frame, part_frame, close_frame}
 use Rattle.ua_channel.specs.Token.{newest_id}
 use Rattle.ua_service.specs.Requests.{canon_request}
 use Rattle.ua_conn.specs.Past.{Past}
-use Rattle.ua_conn.specs.client.Past.{ClientKnown, client_known, acknowledge_frame_in}
-use Rattle.ua_conn.specs.client.Asker.{Asker, hello_by}
+use Rattle.ua_conn.specs.client.Past.{ClientKnown, client_known, acknowledge_frame_in, reverse_frame_in, reverse_in, url_named}
+use Rattle.ua_conn.specs.client.Asker.{Asker, hello_to, hello_by}
 use Rattle.ua_conn.specs.client.Commands.{Act, Ask, Renew, Close, Commands, next_id}
 use Rattle.ua_conn.specs.client.Pending.{come_by}
 use Rattle.ua_conn.specs.client.Questions.{open_asked_body, close_asked_body}
@@ -57,8 +57,14 @@ sent_all first n (sent ∷ more) = sent_bytes (number_after first n) sent ++ sen
 
 -- ---- what is sent behind the frames that came
 
+-- in answer to the ReverseHello, once it came, with the url that it names
+abbrev pub greets_by : Asker → Option Frame → List Sent
+greets_by a None = []
+greets_by a (Some f) = Greeting (hello_to a.config (url_named (reverse_in f))) ∷ []
+
+-- at once, where the client opens the connection
 abbrev pub greets : Asker → Past → List Sent
-greets a past = Greeting (hello_by a) ∷ []
+greets a past = if a.reverse then greets_by a (reverse_frame_in past) else Greeting (hello_by a) ∷ []
 
 -- at the moment of the Acknowledge, once it came
 abbrev pub opens_by : Asker → Option Frame → List Sent
@@ -81,7 +87,7 @@ commands_say a (c ∷ cmds) past =
 
 -- all of it, in order
 abbrev pub sent_by : Asker → Commands → Past → List Sent
-sent_by a cmds past = greets a past ++ opens a past ++ commands_say a cmds past
+sent_by a cmds past = greets a past ++ (opens a past ++ commands_say a cmds past)
 
 -- What is sent where these commands were accepted and these bytes came. They count before their fault alone.
 abbrev pub client_sent : Asker → Commands → List TimedByte → List Sent

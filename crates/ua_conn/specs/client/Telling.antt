@@ -25,11 +25,11 @@ against shown act = if shown.failed then Some Ended else refusal (standing_of sh
 
 -- with one more request that is pending
 abbrev pub waits_for : Awaiting → ℕ → Request → Awaiting
-waits_for w id request = record { known = w.known; pending = w.pending ++ (id, request) ∷ []; due = w.due }
+waits_for w id request = record { reverse = w.reverse; known = w.known; pending = w.pending ++ (id, request) ∷ []; due = w.due }
 
 -- with an open request that is pending
 abbrev pub waits_open : Awaiting → ℕ → Awaiting
-waits_open w id = record { known = w.known; pending = w.pending; due = Some id }
+waits_open w id = record { reverse = w.reverse; known = w.known; pending = w.pending; due = Some id }
 
 -- behind frames after which the next has this number
 abbrev pub numbered_to : ClientRunning → ℕ → ClientRunning
@@ -46,6 +46,7 @@ abbrev pub shown_of : ClientRunning → Bool → ℕ → ℕ → List ℕ → Li
 shown_of r closed id moment rest output failed = record {
   config = r.config;
   held = record {
+    reverse = r.waits.reverse;
     known = r.waits.known;
     closed = closed;
     pending = r.waits.pending;

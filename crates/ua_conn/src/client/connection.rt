@@ -26,6 +26,8 @@ pub(crate) const FIRST_ID: u32 = 1;
 pub(crate) struct Connection {
     pub(crate) alloc: Global,
     pub(crate) config: ClientConfig,
+    /// The server opens the connection, and its ReverseHello has not come yet.
+    pub(crate) reverse: bool,
     pub(crate) channel: ClientChannel,
     /// What the server agreed to, once it said so.
     pub(crate) ack: Option<Ack>,
@@ -43,27 +45,30 @@ impl Model for Connection {
 
     ghost Value = { ClientRunning };
 
-    ghost view = { λ c. client_running_of c.config c.ack c.channel c.half.half c.pending.requests c.due c.next };
+    ghost view = { λ c. client_running_of c.config c.reverse c.ack c.channel c.half.half c.pending.requests c.due c.next };
 
     ghost invariant = { λ c. IsRunning c.config c.ack c.half c.next (IsAll c) };
 }
 
 impl Connection {
-    /// A connection over which nothing came yet, whose numbers begin with `first_sequence`.
+    /// A connection over which nothing came yet, whose numbers begin with `first_sequence`; `reverse` says that the server
+    /// opens it.
     pub(crate) fn new(
         alloc: Global,
         config: ClientConfig,
+        reverse: bool,
         first_sequence: u32,
     ) -> Result<Connection, NoMemory>
         requires config { IsConfig config }
         requires first_least { 1 ≤ first_sequence }
         requires first_most { first_sequence ≤ 4294966272 }
-        ensures { IfOk result (λ c. c ≡ record { config = config; waits = record { known = client_known []; pending = []; due = Some 1 }; next = first_sequence; moment = 0 }) }
+        ensures { IfOk result (λ c. c ≡ record { config = config; waits = record { reverse = reverse; known = client_known []; pending = []; due = Some 1 }; next = first_sequence; moment = 0 }) }
     {
         let half = Assembly::with_capacity(alloc, config.max_message, config.max_chunks)?;
         Ok(Connection {
             alloc,
             config,
+            reverse,
             channel: ClientChannel::start(),
             ack: None,
             half,

@@ -7,19 +7,51 @@ ghost use Rattle.ua_chunk.specs.Half.{body_of as body_bytes};
 ghost use Rattle.ua_chunk.specs.Numbers.{number_after};
 ghost use Rattle.ua_chunk.specs.Written.{open_frame, close_frame};
 ghost use Rattle.ua_channel.specs.Token.{newest_id};
+ghost use Rattle.ua_frame.specs.Hello.{hello_frame};
+ghost use Rattle.ua_conn.specs.client.Asker.{hello_to as said_to};
 ghost use Rattle.ua_conn.specs.client.Asking.{has_token_of};
 ghost use Rattle.ua_conn.specs.client.Questions.{open_asked_body, close_asked_body};
 ghost use Rattle.ua_conn.specs.client.Telling.{type_of, numbered_to, waiting_to, waits_open};
 
+use crate::client::config::ClientConfig;
 use crate::client::connection::Connection;
 use ua_chunk::{write_close, write_open};
-use ua_frame::VERSION;
+use ua_frame::{Hello, VERSION};
 use ua_service::encoding::{CLOSE_REQUEST, OPEN_REQUEST};
 use ua_service::request_head;
-use ua_value::NoMemory;
+use ua_value::plumbing::let_go;
+use ua_value::{NoMemory, UaString};
 
 /// The mode without security.
 const NO_SECURITY: u8 = 1;
+
+/// What a Hello of a client says, with this url. OPC 10000-6, 7.1.2.3.
+pub(crate) fn hello_to(config: &ClientConfig, url: UaString) -> Hello
+    ensures { result ≡ said_to config.now url }
+{
+    Hello {
+        version: VERSION,
+        receive: config.buffer,
+        send: config.buffer,
+        max_message: config.max_message,
+        max_chunks: config.max_chunks,
+        url,
+    }
+}
+
+/// Writes the Hello that greets a server, with this url. After `NoMemory` nothing was written. OPC 10000-6, 7.1.2.3.
+pub(crate) fn write_hello(
+    config: &ClientConfig,
+    url: UaString,
+    out: &mut Vec<u8>,
+) -> Result<(), NoMemory>
+    ensures { out.new.items ≡ (if is_ok result then out.old.items ++ hello_frame (said_to config.now url) else out.old.items) }
+{
+    let hello = hello_to(config, url);
+    let wrote = hello.write(out);
+    let_go(hello);
+    wrote
+}
 
 /// What an open request asks for. OPC 10000-4, 5.6.2.2, requestType.
 #[derive(Clone, Copy)]

@@ -10,6 +10,7 @@ mod acknowledge;
 mod error;
 mod message;
 mod opening;
+mod reverse;
 
 use crate::client::answer::Answer;
 use crate::client::connection::Connection;
@@ -31,12 +32,14 @@ impl Connection {
         }
     }
 
-    /// Whether a frame of this type may come next: first an Acknowledge, then an OPN, then MSG, and OPN while a
-    /// renewal is pending.
+    /// Whether a frame of this type may come next: a ReverseHello where the server opens the connection, then an
+    /// Acknowledge, then an OPN, then MSG, and OPN while a renewal is pending.
     fn awaits(&self, kind: Kind) -> bool
-        ensures { result ≡ is_awaited self.now.waits.known self.now.waits.due (Some kind) }
+        ensures { result ≡ is_awaited self.now.waits.reverse self.now.waits.known self.now.waits.due (Some kind) }
     {
-        if self.ack.is_none() {
+        if self.reverse {
+            matches!(kind, Kind::ReverseHello)
+        } else if self.ack.is_none() {
             matches!(kind, Kind::Acknowledge)
         } else if self.channel.is_open() {
             matches!(kind, Kind::Message) || (matches!(kind, Kind::Open) && self.due.is_some())
@@ -72,6 +75,7 @@ impl Connection {
             return Err(ClientFault::Broken(BAD_TCP_MESSAGE_TYPE_INVALID));
         }
         match kind {
+            Kind::ReverseHello => self.reverse_hello(frame, out),
             Kind::Acknowledge => self.acknowledge(frame, now, out),
             Kind::Open => self.opening(frame, now),
             Kind::Message => self.message(frame, now, answers),

@@ -11,6 +11,9 @@ ghost use Rattle.ua_conn.specs.Conversing.{setup_of};
 ghost use Rattle.ua_conn.specs.Between.{Between, Tells, is_memory, Meets, Served, Heard, run_of};
 ghost use Rattle.ua_conn.specs.Story.{Setup as Both, World, begun, happens, run, told};
 ghost use Rattle.ua_conn.specs.client.Commands as commands;
+ghost use Rattle.ua_conn.specs.server.Greeting.{greeting as said_first};
+ghost use Rattle.ua_conn.specs.server.Held.{held};
+ghost use Rattle.ua_conn.specs.server.Site.{Site};
 ghost use Rattle.ua_conn.specs.declared.schedule.Step.TheVariants as steps;
 
 use crate::client::{Answer, AskFault, Client, ClientFault};
@@ -161,6 +164,22 @@ fn hear(
     }
 }
 
+/// A client that has heard nothing yet.
+fn client_of(alloc: Global, setup: &Setup) -> Result<Client, NoMemory>
+    requires config { IsConfig setup.now.config }
+    requires url { is_long setup.now.url.now ≡ false }
+    requires first_least { 1 ≤ setup.now.first_sequence }
+    requires first_most { setup.now.first_sequence ≤ 4294966272 }
+    ensures { IfOk result (λ client. let a : Asker = (setup_of setup.now).asker in
+        client ≡ record { config = a.config; held = client_held a []; output = client_bytes a [] []; failed = false }) }
+{
+    if setup.reverse {
+        Client::new_reverse(alloc, setup.config, setup.first_sequence)
+    } else {
+        Client::new(alloc, setup.config, setup.url, setup.first_sequence)
+    }
+}
+
 /// A client that has heard nothing yet, and what it said.
 fn greeting(alloc: Global, setup: &Setup) -> Result<(Client, Vec<u8>), NoMemory>
     requires config { IsConfig setup.now.config }
@@ -171,7 +190,7 @@ fn greeting(alloc: Global, setup: &Setup) -> Result<(Client, Vec<u8>), NoMemory>
         made.0 ≡ record { config = a.config; held = client_held a []; output = []; failed = false }) }
     ensures up { IfOk result (λ made. made.1.items ≡ client_bytes (setup_of setup.now).asker [] []) }
 {
-    let mut client = Client::new(alloc, setup.config, setup.url, setup.first_sequence)?;
+    let mut client = client_of(alloc, setup)?;
     let mut up = Vec::new(alloc);
     match send(&mut client, &mut up) {
         Ok(()) => Ok((client, up)),
@@ -179,6 +198,26 @@ fn greeting(alloc: Global, setup: &Setup) -> Result<(Client, Vec<u8>), NoMemory>
             let_go((client, up));
             Err(e)
         }
+    }
+}
+
+/// A server that has heard nothing yet. Where it opens the connection, `down` gains its ReverseHello.
+fn server_of<'a>(
+    alloc: Global,
+    setup: &Setup<'a>,
+    down: &mut Vec<u8>,
+) -> Result<Server<'a>, NoMemory>
+    requires channel { 0 < setup.now.channel_id }
+    ensures server { IfOk result (λ server. let site : Site = (setup_of setup.now).site in server ≡ record { site = site; held = held site []; failed = false }) }
+    ensures said { OnOk result (down.new.items ≡ down.old.items ++ said_first setup.now.reverse setup.now.settings.now) }
+{
+    if !setup.reverse {
+        return Server::new(alloc, setup.settings, setup.channel_id);
+    }
+    match Server::new_reverse(alloc, setup.settings, setup.channel_id, down) {
+        Ok(server) => Ok(server),
+        // (what `converse` asks for rules the other reasons out)
+        Err(_) => Err(AllocError),
     }
 }
 
@@ -193,7 +232,8 @@ impl<'a> Ends<'a> {
         ensures { IfOk result (λ ends. Between (setup_of setup.now) (begun (setup_of setup.now)) (run_of ends)) }
     {
         let start = setup.start;
-        let server = Server::new(alloc, setup.settings, setup.channel_id)?;
+        let mut down = Vec::new(alloc);
+        let server = server_of(alloc, setup, &mut down)?;
         match greeting(alloc, setup) {
             Ok((client, up)) => Ok(Ends {
                 clock: start,
@@ -206,13 +246,13 @@ impl<'a> Ends<'a> {
                     handed: Vec::new(alloc),
                     answers: Vec::new(alloc),
                     up,
-                    down: Vec::new(alloc),
+                    down,
                     server_end: None,
                     client_fault: None,
                 },
             }),
             Err(e) => {
-                let_go(server);
+                let_go((server, down));
                 Err(e)
             }
         }

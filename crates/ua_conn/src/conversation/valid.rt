@@ -1,9 +1,10 @@
 //! What the types of a setup and of a schedule say of them: their texts are UTF-8, and their numbers fit.
 
-ghost use Rattle.std.specs.Prelude.{◌≡◌, ◌≤◌, ◌<◌, false};
+ghost use Rattle.std.specs.Prelude.{◌≡◌, ◌≤◌, ◌<◌, true, false, None};
 ghost use Rattle.ua_frame.specs.Hello.{is_long};
 ghost use Rattle.ua_conn.specs.BothEnds.{IsConfig, IsSchedule, IsSetup, IsStep};
 ghost use Rattle.ua_conn.specs.Conversing.{setup_of};
+ghost use Rattle.ua_conn.specs.server.Greeting.{reverse_fault};
 
 use crate::moment::moment_of;
 use crate::schedule::Step;
@@ -16,6 +17,7 @@ pub(crate) fn setup_is_in_range(setup: &Setup)
     requires channel { 0 < setup.now.channel_id }
     requires config { IsConfig setup.now.config }
     requires url { is_long setup.now.url.now ≡ false }
+    requires reverse { setup.now.reverse ≡ true → reverse_fault setup.now.settings.now ≡ None }
     requires first_least { 1 ≤ setup.now.first_sequence }
     requires first_most { setup.now.first_sequence ≤ 4294966272 }
     ensures { IsSetup (setup_of setup.now) }

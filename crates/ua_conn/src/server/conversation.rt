@@ -4,8 +4,7 @@ ghost use Rattle.std.specs.Prelude.{◌≡◌, ◌<◌, ◌++◌, [], Bool, true
 ghost use Rattle.ua_frame.specs.Streams.{moment_of as counted, pieces_of, timed};
 ghost use Rattle.ua_service.specs.declared.request.Request.{Request as Asked};
 ghost use Rattle.ua_conn.specs.server.Site.{Site};
-ghost use Rattle.ua_conn.specs.server.Greeting.{greeting, reverse_fault};
-ghost use Rattle.ua_conn.specs.server.Held.{held};
+ghost use Rattle.ua_conn.specs.server.Greeting.{reverse_fault};
 ghost use Rattle.ua_conn.specs.server.Replies.{reply_bytes, end_of};
 ghost use Rattle.ua_conn.specs.server.Replies as replies;
 ghost use Rattle.ua_conn.specs.server.Feeding.{FeedsAll, Answering};

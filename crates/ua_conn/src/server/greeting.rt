@@ -4,6 +4,7 @@ ghost use Rattle.std.specs.Prelude.{◌≡◌, None, Some, IfOk, IfErr};
 ghost use Rattle.ua_disco.specs.Settings.{first_url_of};
 ghost use Rattle.ua_conn.specs.server.Greeting.{reverse_fault};
 
+use crate::limits::GREATEST_FIRST_FRAME;
 use std::alloc::AllocError;
 use ua_disco::Settings;
 use ua_value::{UaString, Wire};
@@ -30,10 +31,25 @@ impl From<AllocError> for ReverseFault {
 }
 
 /// Bytes of the longest frame before an Acknowledge.
-const LONGEST_FRAME: u64 = 8192;
+const LONGEST_FRAME: u64 = GREATEST_FIRST_FRAME as u64;
 
 /// Bytes of a frame's header.
-const HEADER: u64 = 8;
+const HEADER: u64 = ua_frame::HEADER as u64;
+
+/// Whether a server of these settings can open a connection. It takes no memory. OPC 10000-6, 7.1.2.6.
+///
+/// # Errors
+///
+/// `NoEndpoint` where the settings have no endpoint; `TooLarge` where the ReverseHello would have more than 8192 bytes.
+pub fn can_open(settings: &Settings) -> Result<(), ReverseFault>
+    ensures fine { IfOk result (λ _. reverse_fault settings.now ≡ None) }
+    ensures fault { IfErr result (λ fault. reverse_fault settings.now ≡ Some fault) }
+{
+    match greeting_url(settings) {
+        Ok(_) => Ok(()),
+        Err(fault) => Err(fault),
+    }
+}
 
 /// The url that the ReverseHello names, or why there can't be one.
 pub(crate) fn greeting_url(settings: &Settings) -> Result<&UaString, ReverseFault>

@@ -1,15 +1,15 @@
 use Rattle.std.proofs.Common.{refl}
 use Rattle.ua_command.specs.Run.{Streams}
-use Rattle.ua_command.proofs.Ends.{answer_done, value_done, show_done, serve_done, ask_done, answer_stopped, file_stopped, serve_stopped, link_stopped}
+use Rattle.ua_command.proofs.Ends.{answer_done, value_done, show_done, serve_done, ask_done, answer_stopped, file_stopped, serve_stopped, link_stopped, asked_short}
 use Rattle.ua_command.proofs.run.done.Goals as goal
 
 pub returns-in-Answer-clause-done : goal.returns-in-Answer-clause-done
 returns-in-Answer-clause-done g c =
     let s : Streams = record { left = g.I.Read.remaining c.args.input.now; printed = g.O.Write.contents c.args.output.now; printed' = g.O.Write.contents c.answer.new.output; told = g.E.Write.contents c.args.errors.now; told' = g.E.Write.contents c.args.errors.now } in
-    answer_done _ c.in-Answer.source s c.answer.result (rw c.in-Answer.is at c.in-Ok.ensures.asked) refl c.answer.ensures.ok
+    answer_done _ c.in-Answer.source c.in-Answer.reverse s c.answer.result (rw c.in-Answer.is at c.in-Ok.ensures.asked) refl c.answer.ensures.ok
 
 pub returns-in-Answer-clause-err : goal.returns-in-Answer-clause-err
-returns-in-Answer-clause-err g c = answer_stopped _ c.in-Answer.source _ c.answer.result (rw c.in-Answer.is at c.in-Ok.ensures.asked) c.answer.ensures.err
+returns-in-Answer-clause-err g c = answer_stopped _ c.in-Answer.source c.in-Answer.reverse _ c.answer.result (rw c.in-Answer.is at c.in-Ok.ensures.asked) c.answer.ensures.err
 
 pub returns-in-Value-clause-done : goal.returns-in-Value-clause-done
 returns-in-Value-clause-done g c =
@@ -30,10 +30,13 @@ returns-in-Show-clause-err g c = file_stopped _ _ _ c.show.result (rw c.in-Show.
 pub returns-in-Serve-clause-done : goal.returns-in-Serve-clause-done
 returns-in-Serve-clause-done g c =
     let s : Streams = record { left = g.I.Read.remaining c.args.input.now; printed = g.O.Write.contents c.args.output.now; printed' = g.O.Write.contents c.serve.new.output; told = g.E.Write.contents c.args.errors.now; told' = g.E.Write.contents c.serve.new.errors } in
-    serve_done _ c.in-Serve.source c.in-Serve.address c.in-Serve.connections s c.serve.result (rw c.in-Serve.is at c.in-Ok.ensures.asked) c.serve.ensures.ok
+    serve_done _ c.in-Serve.source c.in-Serve.address c.in-Serve.connections c.in-Serve.reverse s c.serve.result (rw c.in-Serve.is at c.in-Ok.ensures.asked) c.serve.ensures.ok
 
 pub returns-in-Serve-clause-err : goal.returns-in-Serve-clause-err
-returns-in-Serve-clause-err g c = serve_stopped _ c.in-Serve.source c.in-Serve.address c.in-Serve.connections _ c.serve.result (rw c.in-Serve.is at c.in-Ok.ensures.asked) c.serve.ensures.err
+returns-in-Serve-clause-err g c = serve_stopped _ c.in-Serve.source c.in-Serve.address c.in-Serve.connections c.in-Serve.reverse _ c.serve.result (rw c.in-Serve.is at c.in-Ok.ensures.asked) c.serve.ensures.err
+
+pub ask-requires : goal.ask-requires
+ask-requires g c = asked_short _ c.in-Ask.question c.in-Ask.address c.in-Ask.url c.as_deref.result (rw c.in-Ask.is at c.in-Ok.ensures.asked) c.as_deref.ensures.value
 
 pub returns-in-Ask-clause-done : goal.returns-in-Ask-clause-done
 returns-in-Ask-clause-done g c =

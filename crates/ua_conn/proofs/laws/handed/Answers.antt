@@ -1,4 +1,4 @@
-use Rattle.ua_conn.proofs.BothEnds.HandedLemmas as law
+use Rattle.ua_conn.proofs.BothEnds.ReverseLemmas as law
 use Rattle.ua_conn.proofs.laws.handed.Goals as goal
 
 pub returns : goal.returns

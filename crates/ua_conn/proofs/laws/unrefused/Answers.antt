@@ -1,4 +1,4 @@
-use Rattle.ua_conn.proofs.BothEnds.UnrefusedLemmas as law
+use Rattle.ua_conn.proofs.BothEnds.ReverseLemmas as law
 use Rattle.ua_conn.proofs.laws.unrefused.Goals as goal
 
 pub returns : goal.returns

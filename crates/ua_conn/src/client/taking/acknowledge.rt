@@ -3,7 +3,6 @@
 ghost use Rattle.std.specs.Prelude.{◌≡◌, ◌<◌, ◌≤◌, ◌^◌, Some, List, true, IfOk};
 ghost use Rattle.ua_frame.specs.Hello.{acknowledge_of};
 ghost use Rattle.ua_conn.specs.server.Ranges.{IsBuffer};
-ghost use Rattle.ua_conn.specs.client.Asker.{hello_by};
 ghost use Rattle.ua_conn.specs.client.Faults.{broken, acknowledge_rows};
 ghost use Rattle.ua_conn.specs.client.Ranges.{IsAccepted};
 ghost use Rattle.ua_conn.specs.client.Effects.{asker_with, acknowledge_effect, Does, Judges};
@@ -12,27 +11,13 @@ ghost use Rattle.ua_conn.specs.declared.client.answer.Answer.{Answer as Given};
 use crate::client::config::ClientConfig;
 use crate::client::connection::{Connection, FIRST_ID};
 use crate::client::fault::ClientFault;
-use crate::client::questions::Asks;
+use crate::client::questions::{Asks, hello_to};
 use ua_frame::status::BAD_TCP_NOT_ENOUGH_RESOURCES;
-use ua_frame::{Ack, Frame, Hello, Kind, VERSION, acceptable};
+use ua_frame::{Ack, Frame, Kind, acceptable};
 use ua_value::UaString;
 
 /// The channel of an open request that opens one.
 const NO_CHANNEL: u32 = 0;
-
-/// What a Hello of this client says, but for its url. OPC 10000-6, 7.1.2.3.
-fn hello_of(config: &ClientConfig) -> Hello
-    ensures { result ≡ hello_by (asker_with config.now) }
-{
-    Hello {
-        version: VERSION,
-        receive: config.buffer,
-        send: config.buffer,
-        max_message: config.max_message,
-        max_chunks: config.max_chunks,
-        url: UaString::null(),
-    }
-}
 
 /// The Acknowledge that a frame is, where it is acceptable.
 fn agree(config: &ClientConfig, frame: &Frame) -> Result<Ack, ClientFault>
@@ -41,7 +26,8 @@ fn agree(config: &ClientConfig, frame: &Frame) -> Result<Ack, ClientFault>
     ensures { Judges (broken (acknowledge_rows (asker_with config.now) (acknowledge_of frame.now.fields))) (λ ack. (acknowledge_of frame.now.fields ≡ Some ack) × IsAccepted ack × (ack.send ≤ config.now.buffer)) result }
 {
     let ack = Ack::read(frame)?;
-    if !acceptable(&hello_of(config), &ack) {
+    // (whatever url the Hello named)
+    if !acceptable(&hello_to(config, UaString::null()), &ack) {
         return Err(ClientFault::Broken(BAD_TCP_NOT_ENOUGH_RESOURCES));
     }
     Ok(ack)

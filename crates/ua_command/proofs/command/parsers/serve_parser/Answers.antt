@@ -4,4 +4,5 @@ pub returns-clause-app : goal.returns-clause-app
 returns-clause-app c =
     let settings = c.with_word-with_settings.ensures.app _ _ c.command-serve.ensures.app c.required.ensures.rule in
     let address = c.with_word-with_address.ensures.app _ _ settings c.required-2.ensures.rule in
-    c.with_word.ensures.app _ _ address c.count_word.ensures.rule
+    let count = c.with_word-with_count.ensures.app _ _ address c.count_word.ensures.rule in
+    c.with_word.ensures.app _ _ count c.reverse_flag.ensures.rule

@@ -28,5 +28,5 @@ returns-clause-does c = λ bytes.
       left = c.in_ok-answer.ensures.left ∙ ap (λ n. without n s.pending.requests) id;
       given = c.in_ok-answer.ensures.given ∙ ap (λ n. c.args.answers.now.items ++ answer_with n (waiting_under n s.pending.requests) (Some c.in-Some-2.came)) id;
     } in
-    rw (← c.self.view_is) (answer_acts s.config s.ack s.channel c.heard.new.channel s.half c.gather.new.half s.pending.requests c.answer.new.pending.requests s.due s.next c.args.now p.flag (chunk_of p.fields) chunk p.kind c.in-Some.request.now (Some c.in-Some-2.came) bytes c.args.answers.now.items c.answer.new.answers.items
+    rw (← c.self.view_is) (answer_acts s.config s.reverse s.ack s.channel c.heard.new.channel s.half c.gather.new.half s.pending.requests c.answer.new.pending.requests s.due s.next c.args.now p.flag (chunk_of p.fields) chunk p.kind c.in-Some.request.now (Some c.in-Some-2.came) bytes c.args.answers.now.items c.answer.new.answers.items
     c.self.invariant.between is c.in_ok-chunk.ensures.admitted heard.channel same wanted judged.0 gathers ends)

@@ -5,4 +5,4 @@ use Rattle.ua_conn.proofs.client.connection.Connection.new.Goals as goal
 
 pub returns : goal.returns
 unfolding client_known
-returns c = λ i. client_running_of c.args.config None (c.start.ensures i) (c.in_ok-half.ensures.made i).half (c.new.ensures i) (Some 1) (c.starting_at.ensures i)
+returns c = λ i. client_running_of c.args.config c.args.reverse None (c.start.ensures i) (c.in_ok-half.ensures.made i).half (c.new.ensures i) (Some 1) (c.starting_at.ensures i)

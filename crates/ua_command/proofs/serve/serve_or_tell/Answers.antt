@@ -1,0 +1,5 @@
+use Rattle.ua_command.proofs.Serving.{stopped_so}
+use Rattle.ua_command.proofs.serve.serve_or_tell.Goals as goal
+
+pub returns-in-Err : goal.returns-in-Err
+returns-in-Err g c = stopped_so c.args.reverse c.args.settings.now c.in-Err.stop c.told.result c.in-Err.ensures.stop c.told.ensures

@@ -1,0 +1,135 @@
+//! Conversations in which the server opens the connection.
+
+use crate::bytes::joined;
+use crate::clients::CONFIG;
+use crate::lending::{by_default, by_settings, judged};
+use crate::reverse_clients::HELLO_TO_URL;
+use crate::telling::{Act, DOWN, Told, UP, is_told, steps_of};
+use crate::vectors::{
+    ACKNOWLEDGE, FIND_BODY, FIND_REQUEST, FIND_RESPONSE, OPEN_REQUEST, OPEN_RESPONSE, REVERSE_HELLO,
+};
+use std::alloc::Global;
+use ua_conn::{ReverseFault, Setup, Step, Story, can_open, converse};
+use ua_disco::Settings;
+use ua_value::UaString;
+
+/// What is told of these steps, where the server opens the connection; none where it can't, or memory ran out.
+fn story_of(alloc: Global, settings: &Settings, steps: &[Step]) -> Option<Story> {
+    let Ok(()) = can_open(settings) else {
+        return None;
+    };
+    let url = UaString::null();
+    let setup = Setup {
+        settings,
+        channel_id: 1,
+        config: CONFIG,
+        url: &url,
+        first_sequence: 1,
+        reverse: true,
+        start: 0,
+    };
+    converse(alloc, &setup, steps).ok()
+}
+
+/// Whether just that is told of these steps.
+fn tells(alloc: Global, settings: &Settings, acts: &[Act], told: Told) -> Option<bool> {
+    judged(steps_of(alloc, acts), |steps| {
+        let story = story_of(alloc, settings, steps.as_slice());
+        judged(story, |story| Some(is_told(story, told)))
+    })
+}
+
+/// The same, with what each end says as frames, and whether the request is answered.
+fn tells_frames(
+    alloc: Global,
+    settings: &Settings,
+    acts: &[Act],
+    up: &[&[u8]],
+    down: &[&[u8]],
+    answered: bool,
+) -> bool {
+    let answers: &[(u32, Option<u32>)] = if answered { &[(2, None)] } else { &[] };
+    let (Ok(up), Ok(down)) = (joined(alloc, up), joined(alloc, down)) else {
+        return false;
+    };
+    let told = Told {
+        up: up.as_slice(),
+        down: down.as_slice(),
+        answers,
+    };
+    tells(alloc, settings, acts, told).unwrap_or(false)
+}
+
+/// The ReverseHello comes in two pieces: before the second one the client says nothing, whatever is delivered or told.
+fn nothing_is_said_before(alloc: Global, settings: &Settings) -> bool {
+    let early = [Act::Down(44), UP, Act::Ask(FIND_BODY, 69), Act::Renew, UP];
+    let whole = [Act::Down(44), UP, Act::Down(1)];
+    tells_frames(alloc, settings, &[], &[], &[REVERSE_HELLO], false)
+        && tells_frames(alloc, settings, &early, &[], &[REVERSE_HELLO], false)
+        && tells_frames(
+            alloc,
+            settings,
+            &whole,
+            &[HELLO_TO_URL],
+            &[REVERSE_HELLO],
+            false,
+        )
+        && tells_frames(
+            alloc,
+            settings,
+            &[Act::Down(45)],
+            &[HELLO_TO_URL],
+            &[REVERSE_HELLO],
+            false,
+        )
+}
+
+#[test]
+fn a_client_that_is_called_waits_for_the_whole_reverse_hello(rt: HostRuntime) {
+    assert!(rt; by_default(rt.alloc(), nothing_is_said_before));
+}
+
+/// Each frame by its length.
+const BY_FRAMES: [Act; 8] = [
+    Act::Down(45),
+    Act::Up(56),
+    Act::Down(28),
+    Act::Up(132),
+    Act::Down(135),
+    Act::Ask(FIND_BODY, 69),
+    Act::Up(93),
+    Act::Down(134),
+];
+
+/// All that there is, both ways.
+const ALL_AT_ONCE: [Act; 8] = [DOWN, UP, DOWN, UP, DOWN, Act::Ask(FIND_BODY, 69), UP, DOWN];
+
+const SENT: [&[u8]; 3] = [HELLO_TO_URL, OPEN_REQUEST, FIND_REQUEST];
+
+const REPLIED: [&[u8]; 4] = [REVERSE_HELLO, ACKNOWLEDGE, OPEN_RESPONSE, FIND_RESPONSE];
+
+fn a_request_is_answered(alloc: Global, settings: &Settings) -> bool {
+    tells_frames(alloc, settings, &BY_FRAMES, &SENT, &REPLIED, true)
+        && tells_frames(alloc, settings, &ALL_AT_ONCE, &SENT, &REPLIED, true)
+}
+
+#[test]
+fn a_server_and_the_client_that_it_calls_converse(rt: HostRuntime) {
+    assert!(rt; by_default(rt.alloc(), a_request_is_answered));
+}
+
+const NO_ENDPOINT: &str = "version = 1\n[application]\nuri = \"u\"\nnames = [{ text = \"n\" }]\n";
+
+fn has_no_endpoint(_alloc: Global, settings: &Settings) -> bool {
+    can_open(settings) == Err(ReverseFault::NoEndpoint)
+}
+
+fn opens(_alloc: Global, settings: &Settings) -> bool {
+    can_open(settings) == Ok(())
+}
+
+#[test]
+fn settings_say_whether_a_server_can_open_a_connection(rt: HostRuntime) {
+    assert!(rt; by_default(rt.alloc(), opens));
+    assert!(rt; by_settings(rt.alloc(), NO_ENDPOINT, has_no_endpoint));
+}
