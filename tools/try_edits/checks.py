@@ -57,11 +57,11 @@ class Repository:
 class Rooms:
     """The temporary folder: in `whole` each crate is proved as it stands; each lane has a repository of its own for the checks."""
 
-    def __init__(self, wanted):
+    def __init__(self, wanted, anew):
         self.top = tempfile.mkdtemp(prefix="try-edits-")
         self.whole = Repository(f"{self.top}/whole")
         for crate in wanted:
-            self.whole.add(crate, f"{crate.folder}/out")
+            self.whole.add(crate, None if anew else f"{crate.folder}/out")
         self.lanes, self.count, self.lock = [], 0, threading.Lock()
 
     def prove(self, crate, is_library, jobs):
