@@ -1,3 +1,4 @@
 pub mod Choosing
+pub mod Index
 pub mod Names
 pub mod Places

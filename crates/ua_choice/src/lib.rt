@@ -3,10 +3,12 @@
 #![tactic(auto)]
 
 mod choosing;
+mod filter;
 mod names;
 mod places;
 mod verdicts;
 
 pub use choosing::asks_for;
+pub use filter::Filter;
 pub use names::Names;
 pub use verdicts::Verdicts;

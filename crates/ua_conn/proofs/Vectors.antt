@@ -149,7 +149,7 @@ endpoint = record {
 }
 
 abbrev pub settings : Configuration
-settings = record { limits = limits; application = application; endpoints = endpoint ∷ [] }
+settings = record { limits = limits; applications = application ∷ []; endpoints = endpoint ∷ [] }
 
 abbrev pub site : Site
 site = record { settings = settings; channel = 1 }

@@ -15,7 +15,7 @@ use Rattle.ua_disco.specs.declared.fault.SettingsFault.{SettingsFault}
 use Rattle.ua_disco.specs.Faults.{Fault, not_toml, missing, wrong_kind, bad_value, unknown_key, IsFault, Fails, Gives, next}
 use Rattle.ua_disco.specs.declared.fault.SettingsFault.TheVariants.{NotToml, Missing, WrongKind, BadValue, UnknownKey, NoMemory}
 use Rattle.ua_disco.specs.Reading.{items_value, count_of, counted_items}
-use Rattle.ua_disco.specs.Tables.{settings_of, table_settings}
+use Rattle.ua_disco.specs.Tables.{settings_of, table_settings, at_least_one}
 
 -- what was read before, and what is still read
 abbrev pub with_front : {V : Type 0} → List V → Result (List V) Fault → Result (List V) Fault
@@ -119,3 +119,12 @@ first_fails NoMemory r f h = tt
 -- a step behind one that gives a value
 pub next_gives : {A B : Type 0} (r : Result A Fault) (a : A) (f : A → Result B Fault) → r ≡ Ok a → next r f ≡ f a
 next_gives r a f h = rw h refl
+
+-- items of which there is one at least
+pub at_least : {V : Type 0} (path : List ℕ) (vs : List V) → 0 < length vs → at_least_one path vs ≡ Ok vs
+at_least path [] some = absurd (omega (arith, some))
+at_least path (v ∷ vs) some = refl
+
+pub none_at_all : {V : Type 0} (vs : List V) → length vs ≡ 0 → vs ≡ []
+none_at_all [] none = refl
+none_at_all (v ∷ vs) none = absurd (omega (arith, none))

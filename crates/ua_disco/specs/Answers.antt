@@ -1,5 +1,5 @@
 -- What a server says to a request. OPC 10000-4, 5.5.2, 5.5.4, 7.33 to 7.35.
-use Rattle.std.specs.Prelude.{ℕ, ℤ, List, [], ◌∷◌, Option, Some, map}
+use Rattle.std.specs.Prelude.{ℕ, ℤ, List, Option, Some, map}
 use Rattle.std.specs.List.{filter}
 use Rattle.ua_value.specs.declared.localized.LocalizedText.{LocalizedText}
 use Rattle.ua_service.specs.declared.headers.RequestHeader.{RequestHeader}
@@ -20,6 +20,7 @@ use Rattle.ua_disco.specs.declared.endpoint.Endpoint.{Endpoint}
 use Rattle.ua_choice.specs.Choosing.{is_asked}
 use Rattle.ua_choice.specs.Names.{name_for}
 use Rattle.ua_disco.specs.Configuration.{Configuration}
+use Rattle.ua_disco.specs.Settings.{first_application}
 
 -- an application under one of its names
 abbrev pub described : Application → LocalizedText → ApplicationDescription
@@ -33,7 +34,7 @@ described a name = record {
   discovery_urls = a.discovery_urls;
 }
 
--- an endpoint of the application
+-- an endpoint whose server is the application
 abbrev pub described_endpoint : Application → LocalizedText → Endpoint → EndpointDescription
 described_endpoint a name e = record {
   endpoint_url = e.url;
@@ -54,13 +55,17 @@ application_for locales a = described a (name_for locales a.names)
 abbrev pub endpoint_for : Option (List (Option (List ℕ))) → Application → Endpoint → EndpointDescription
 endpoint_for locales a e = described_endpoint a (name_for locales a.names) e
 
--- The applications whose URI the filter asks for. The url of the request changes nothing.
-unfoldable pub servers_found : Configuration → FindServersRequest → List ApplicationDescription
-servers_found c m = map (application_for m.locale_ids) (filter (λ a. is_asked m.server_uris a.uri) (c.application ∷ []))
+-- of these applications those whose URI is asked for, in their order, each for a reader of these locales
+abbrev pub servers_among : Option (List (Option (List ℕ))) → Option (List (Option (List ℕ))) → List Application → List ApplicationDescription
+servers_among locales uris listed = map (application_for locales) (filter (λ a. is_asked uris a.uri) listed)
 
--- The endpoints whose transport the filter asks for, in the order of the settings.
+-- The applications whose URI the filter asks for, in the order of the settings. The url of the request changes nothing.
+unfoldable pub servers_found : Configuration → FindServersRequest → List ApplicationDescription
+servers_found c m = servers_among m.locale_ids m.server_uris c.applications
+
+-- The endpoints whose transport the filter asks for, in the order of the settings. The server of each is the first application.
 unfoldable pub endpoints_found : Configuration → GetEndpointsRequest → List EndpointDescription
-endpoints_found c m = map (endpoint_for m.locale_ids c.application) (filter (λ e. is_asked m.profile_uris e.transport) c.endpoints)
+endpoints_found c m = map (endpoint_for m.locale_ids (first_application c.applications)) (filter (λ e. is_asked m.profile_uris e.transport) c.endpoints)
 
 abbrev pub find_servers_answer : Configuration → FindServersRequest → ℤ → FindServersResponse
 find_servers_answer c m now = record { header = response_header_at now m.header.request_handle 0; servers = Some (servers_found c m) }

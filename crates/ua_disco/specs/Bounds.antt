@@ -62,6 +62,8 @@ pub record IsLimits (l : Limits) : Type 0 where
 
 pub record IsConfiguration (c : Configuration) : Type 0 where
   pub limits : IsLimits c.limits
-  pub application : IsApplication c.application
+  pub some : 0 < length c.applications
+  pub number : length c.applications ≤ 65535
+  pub applications : AllByRecursion IsApplication c.applications
   pub count : length c.endpoints ≤ 65535
   pub endpoints : AllByRecursion IsEndpoint c.endpoints

@@ -6,5 +6,6 @@ use Rattle.ua_disco.specs.declared.endpoint.Endpoint.{Endpoint}
 
 pub record Configuration : Type 0 where
   pub limits : Limits
-  pub application : Application
+  -- the first is the server of each endpoint
+  pub applications : List Application
   pub endpoints : List Endpoint

@@ -1,5 +1,5 @@
 -- What each table of settings gives, key by key in the order of docs/FORMATS.md.
-use Rattle.std.specs.Prelude.{ℕ, pos, List, [], ◌∷◌, Option, Some, None, Result, Ok, Err, codes, if◌then◌else◌}
+use Rattle.std.specs.Prelude.{ℕ, nat_eq, pos, List, [], ◌∷◌, Option, Some, None, Result, Ok, Err, codes, if◌then◌else◌}
 use Rattle.std.specs.Str.{is_utf8}
 use Rattle.toml.specs.Data.{Data, Members}
 use Rattle.toml.specs.Parse.{parse_document}
@@ -30,6 +30,11 @@ text_or default = defaulted text_value (Some default)
 
 abbrev pub number_or : ℕ → ℕ → ℕ → List ℕ → List ℕ → Members → Result ℕ Fault
 number_or least most default = integer least most (Some default)
+
+-- at least one item
+abbrev pub at_least_one : {A : Type 0} → List ℕ → List A → Result (List A) Fault
+at_least_one path [] = Err (bad_value path)
+at_least_one path (v ∷ vs) = Ok (v ∷ vs)
 
 -- an array that is written with its count, empty where it is absent
 abbrev pub array_key : {A : Type 0} → (List ℕ → Data → Result A Fault) → List ℕ → List ℕ → Members → Result (List A) Fault
@@ -70,13 +75,8 @@ name_of prefix ms =
     next (text_key prefix (codes "text") ms) (λ text.
     Ok (record { locale = locale; text = text }))))
 
--- at least one
-abbrev pub some_names : List ℕ → List LocalizedText → Result (List LocalizedText) Fault
-some_names path [] = Err (bad_value path)
-some_names path (n ∷ ns) = Ok (n ∷ ns)
-
 unfoldable pub names_value : List ℕ → Data → Result (List LocalizedText) Fault
-names_value path d = next (list_value (table_value name_of) path d) (some_names path)
+names_value path d = next (list_value (table_value name_of) path d) (at_least_one path)
 
 -- ---- the application
 
@@ -180,8 +180,17 @@ endpoint_of prefix ms = next (keys_known endpoint_keys prefix ms) (λ _. endpoin
 
 -- ---- the document
 
-unfoldable pub application_key : Members → Result Application Fault
-application_key ms = required (table_value application_of) [] (codes "application") ms
+-- version 1: one table
+unfoldable pub application_key : Members → Result (List Application) Fault
+application_key ms = next (required (table_value application_of) [] (codes "application") ms) (λ a. Ok (a ∷ []))
+
+-- version 2: an array of tables, at least one
+unfoldable pub applications_key : Members → Result (List Application) Fault
+applications_key ms = next (required (list_value (table_value application_of)) [] (codes "application") ms) (at_least_one (codes "application"))
+
+-- the applications, as the version has them
+unfoldable pub applications_by : ℕ → Members → Result (List Application) Fault
+applications_by version ms = if nat_eq version 1 then application_key ms else applications_key ms
 
 unfoldable pub endpoints_key : Members → Result (List Endpoint) Fault
 endpoints_key ms = array_key (table_value endpoint_of) [] (codes "endpoint") ms
@@ -189,12 +198,12 @@ endpoints_key ms = array_key (table_value endpoint_of) [] (codes "endpoint") ms
 unfoldable pub limits_key : Members → Result Limits Fault
 limits_key ms = defaulted (table_value limits_of) default_limits [] (codes "limits") ms
 
-unfoldable pub body_of : Members → Result Configuration Fault
-body_of ms =
-    next (application_key ms) (λ application.
+unfoldable pub body_of : ℕ → Members → Result Configuration Fault
+body_of version ms =
+    next (applications_by version ms) (λ applications.
     next (endpoints_key ms) (λ endpoints.
     next (limits_key ms) (λ limits.
-    Ok (record { limits = limits; application = application; endpoints = endpoints }))))
+    Ok (record { limits = limits; applications = applications; endpoints = endpoints }))))
 
 abbrev pub top_keys : List (List ℕ)
 top_keys = codes "version" ∷ codes "application" ∷ codes "endpoint" ∷ codes "limits" ∷ []
@@ -203,8 +212,8 @@ top_keys = codes "version" ∷ codes "application" ∷ codes "endpoint" ∷ code
 unfoldable pub table_settings : Members → Result Configuration Fault
 table_settings ms =
     next (keys_known top_keys [] ms) (λ _.
-    next (integer 1 1 None [] (codes "version") ms) (λ _.
-    body_of ms))
+    next (integer 1 2 None [] (codes "version") ms) (λ version.
+    body_of version ms))
 
 abbrev pub document_settings : Option Members → Result Configuration Fault
 document_settings None = Err not_toml

@@ -2,23 +2,45 @@
 
 ghost use Rattle.std.specs.Prelude.{◌≡◌, IfOk};
 ghost use Rattle.ua_disco.specs.Bounds.{IsConfiguration};
-ghost use Rattle.ua_disco.specs.Answers.{answer_of, servers_found, endpoints_found, find_servers_answer, get_endpoints_answer, unsupported};
+ghost use Rattle.ua_disco.specs.Answers.{answer_of, servers_among, servers_found, endpoints_found, find_servers_answer, get_endpoints_answer, unsupported};
 
 use crate::arrays::array_of;
 use crate::settings::Settings;
+use crate::spelled::SpelledApplication;
 use std::alloc::Global;
-use ua_choice::{Verdicts, asks_for};
+use ua_choice::{Filter, Verdicts};
 use ua_service::{
     ApplicationDescription, EndpointDescription, FindServersRequest, FindServersResponse,
     GetEndpointsRequest, GetEndpointsResponse, OtherRequest, Request, Response, ResponseHeader,
     ServiceFault, response_header,
 };
-use ua_value::NoMemory;
+use ua_value::plumbing::let_go;
+use ua_value::{Array, NoMemory, UaString};
 
 /// The service is not one that the server offers (OPC 10000-4, 7.39).
 pub(crate) const BAD_SERVICE_UNSUPPORTED: u32 = 0x800B_0000;
 
-/// The applications that the request asks for.
+/// Of these applications those that the filter asks for, in their order, each for a reader of the locales.
+fn described(
+    alloc: Global,
+    listed: &[SpelledApplication],
+    filter: &Filter<'_>,
+    locales: &Array<UaString>,
+) -> Result<Vec<ApplicationDescription>, NoMemory>
+    ensures { IfOk result (λ v. v.items ≡ servers_among locales.now filter.now listed.now) }
+{
+    let mut found = Vec::new(alloc);
+    for spelled in listed {
+        let application = spelled.get();
+        if filter.asks_for(&application.uri) {
+            let name = application.names.in_language(locales);
+            found.push(application.describe(name)?)?;
+        }
+    }
+    Ok(found)
+}
+
+/// The applications that the request asks for, in the order of the settings.
 #[tactic(auto, unfolding(crate::specs::Answers::servers_found))]
 fn servers(
     alloc: Global,
@@ -28,14 +50,10 @@ fn servers(
     ensures found { IfOk result (λ v. v.items ≡ servers_found settings.now request.now) }
     ensures within { IsConfiguration settings.now }
 {
-    let mut found = Vec::new(alloc);
-    let application = settings.application().get();
-    if !asks_for(&request.server_uris, &application.uri) {
-        return Ok(found);
-    }
-    let name = application.names.in_language(&request.locale_ids);
-    found.push(application.describe(name)?)?;
-    Ok(found)
+    let filter = Filter::new(alloc, &request.server_uris);
+    let found = described(alloc, settings.applications(), &filter, &request.locale_ids);
+    let_go(filter);
+    found
 }
 
 /// The endpoints that the request asks for, in the order of the settings.
@@ -48,7 +66,7 @@ fn endpoints<'a>(
     ensures within { IsConfiguration settings.now }
 {
     let mut found = Vec::new(alloc);
-    let application = settings.application().get();
+    let application = settings.first().get();
     let name = application.names.in_language(&request.locale_ids);
     let offered = settings.endpoints();
     let mut verdicts = Verdicts::new(&request.profile_uris);
@@ -101,7 +119,8 @@ fn fault_header(request: &OtherRequest, now: i64) -> ResponseHeader
 /// What a server with these settings answers to a request at the moment `now`, in ticks of 100 ns
 /// since 1601-01-01 UTC. FindServers (OPC 10000-4, 5.5.2) gets the applications whose URI is among
 /// its ServerUris, GetEndpoints (5.5.4) the endpoints whose transport profile is among its
-/// ProfileUris, each all of them where that array is null or empty, in the order of the settings.
+/// ProfileUris, each all of them where that array is null or empty, in the order of the settings. The
+/// server of an endpoint is the first application.
 /// An application has the first of its names that is in the earliest requested locale that some
 /// name has, else its first name. The url of the request changes nothing. Any other request gets a
 /// ServiceFault with BadServiceUnsupported (7.35). Each text is copied once.

@@ -1,20 +1,17 @@
 //! Reads a document of settings.
 
-ghost use Rattle.std.specs.Prelude.{IfOk};
-ghost use Rattle.ua_disco.specs.Bounds.{IsApplication};
 ghost use Rattle.toml.specs.View.{table_view};
 ghost use Rattle.ua_disco.specs.Faults.{Gives};
-ghost use Rattle.ua_disco.specs.Tables.{application_key, body_of, table_settings, settings_of};
+ghost use Rattle.ua_disco.specs.Tables.{body_of, table_settings, settings_of};
 
 use crate::fault::SettingsFault;
 use crate::path::top;
-use crate::read_application::read_application_key;
+use crate::read_application::read_applications;
 use crate::read_endpoint::read_endpoints_key;
 use crate::read_limits::read_limits_key;
 use crate::reading::{check_keys, read_integer};
 use crate::settings::Settings;
-use crate::spelled::SpelledApplication;
-use crate::valid::{application_is_value, endpoints_are_values};
+use crate::valid::{applications_are_values, endpoints_are_values};
 use std::alloc::Global;
 use toml::Table;
 
@@ -33,35 +30,18 @@ url = \"opc.tcp://localhost:4840\"
 id = \"0\"
 ";
 
-/// The application of a document, spelled.
-fn read_spelled_application(
-    alloc: Global,
-    table: &Table,
-) -> Result<SpelledApplication, SettingsFault>
-    ensures gives { Gives (λ a. a) (application_key (table_view table.now)) result }
-    ensures kept { IfOk result IsApplication }
-{
-    match read_application_key(alloc, table) {
-        Ok(application) => match SpelledApplication::new(alloc, application) {
-            Ok(spelled) => Ok(spelled),
-            Err(_) => Err(SettingsFault::NoMemory),
-        },
-        Err(fault) => Err(fault),
-    }
-}
-
 #[tactic(auto, unfolding(crate::specs::Tables::body_of))]
-fn read_body(alloc: Global, table: &Table) -> Result<Settings, SettingsFault>
-    ensures { Gives (λ s. s) (body_of (table_view table.now)) result }
+fn read_body(alloc: Global, table: &Table, version: u32) -> Result<Settings, SettingsFault>
+    ensures { Gives (λ s. s) (body_of version (table_view table.now)) result }
 {
-    let application = read_spelled_application(alloc, table)?;
+    let applications = read_applications(alloc, table, version)?;
     let endpoints = read_endpoints_key(alloc, table)?;
     let limits = read_limits_key(alloc, table)?;
-    application_is_value(application.get());
+    applications_are_values(&applications);
     endpoints_are_values(&endpoints);
     Ok(Settings {
         limits,
-        application,
+        applications,
         endpoints,
     })
 }
@@ -72,8 +52,8 @@ fn read_table(alloc: Global, table: &Table) -> Result<Settings, SettingsFault>
 {
     let known = ["version", "application", "endpoint", "limits"];
     check_keys(alloc, table, &top(), &known)?;
-    let _version = read_integer(alloc, table, &top(), "version", (1, 1), None)?;
-    read_body(alloc, table)
+    let version = read_integer(alloc, table, &top(), "version", (1, 2), None)?;
+    read_body(alloc, table, version)
 }
 
 impl Settings {

@@ -1,34 +1,79 @@
 //! What a request asks for, lent from the settings.
 
-ghost use Rattle.std.specs.Prelude.{◌≡◌, ◌≤◌, ◌++◌, [], ◌∷◌, length, None, IfSome, OnOk, OnErr};
-ghost use Rattle.std.specs.List.{flat_map};
+ghost use Rattle.std.specs.Prelude.{◌≡◌, ◌≤◌, ◌++◌, length, OnOk, OnErr};
+ghost use Rattle.std.specs.List.{AllByRecursion, flat_map};
 ghost use Rattle.ua_value.specs.Format.{AppendsPart};
+ghost use Rattle.ua_service.specs.Application.{application_description};
 ghost use Rattle.ua_service.specs.Endpoint.{endpoint_description};
-ghost use Rattle.ua_disco.specs.Answers.{described, servers_found, endpoints_found};
+ghost use Rattle.ua_disco.specs.Answers.{servers_among, endpoints_found};
+ghost use Rattle.ua_disco.specs.Bounds.{IsApplication};
 
 use crate::settings::Settings;
-use crate::spelled::NamedApplication;
-use ua_choice::{Verdicts, asks_for};
-use ua_service::{FindServersRequest, GetEndpointsRequest};
+use crate::spelled::{NamedApplication, SpelledApplication};
+use ua_choice::{Filter, Verdicts};
+use ua_service::GetEndpointsRequest;
 use ua_value::plumbing::Parts;
-use ua_value::{NoMemory, Sink};
+use ua_value::{Array, NoMemory, Sink, UaString};
 
-/// The application under the name that the request asks for, where it asks for the application.
-#[tactic(auto, unfolding(crate::specs::Answers::servers_found))]
-pub(crate) fn asked_server<'a>(
-    settings: &'a Settings,
-    request: &FindServersRequest,
-) -> Option<NamedApplication<'a>>
-    ensures some { IfSome result (λ a. servers_found settings.now request.now ≡ described a.application.now a.name.now ∷ []) }
-    ensures none { result ≡ None → servers_found settings.now request.now ≡ [] }
-{
-    let application = settings.application();
-    let plain = application.get();
-    if !asks_for(&request.server_uris, &plain.uri) {
-        return None;
+/// The applications that a filter asks for, in their order, each for a reader of the locales.
+#[derive(Clone, Copy)]
+pub(crate) struct FoundServers<'a> {
+    pub(crate) listed: &'a [SpelledApplication],
+    pub(crate) filter: &'a Filter<'a>,
+    pub(crate) locales: &'a Array<UaString>,
+}
+
+impl<'a> FoundServers<'a> {
+    /// How many they are.
+    pub(crate) fn count(&self) -> usize
+        requires { length self.now.listed.now ≤ 65535 }
+        ensures count { result ≡ length (servers_among self.now.locales.now self.now.filter.now self.now.listed.now) }
+        ensures few { result ≤ 65535 }
+    {
+        let mut number = 0;
+        let (listed, filter) = (self.listed, self.filter);
+        for application in listed {
+            if filter.asks_for(&application.get().uri) {
+                number += 1;
+            }
+        }
+        number
     }
-    let name = plain.names.in_language(&request.locale_ids);
-    Some(NamedApplication { application, name })
+
+    /// The length of what they are written as, in bytes.
+    pub(crate) fn len(&self) -> u64
+        requires applications { AllByRecursion IsApplication self.now.listed.now }
+        requires number { length self.now.listed.now ≤ 65535 }
+        ensures length { result ≡ length (flat_map application_description.canon (servers_among self.now.locales.now self.now.filter.now self.now.listed.now)) }
+        ensures few { result ≤ 1152921504606846976 }
+    {
+        let mut total = 0;
+        let (listed, filter, locales) = (self.listed, self.filter, self.locales);
+        for application in listed {
+            let plain = application.get();
+            if filter.asks_for(&plain.uri) {
+                let name = plain.names.in_language(locales);
+                total += NamedApplication { application, name }.len();
+            }
+        }
+        total
+    }
+}
+
+impl<'a> Parts for FoundServers<'a> {
+    ghost spelling = { λ p. flat_map application_description.canon (servers_among p.locales.now p.filter.now p.listed.now) };
+
+    fn emit_parts<S: Sink>(&self, out: &mut S) -> Result<(), NoMemory> {
+        let (listed, filter, locales) = (self.listed, self.filter, self.locales);
+        for application in listed {
+            let plain = application.get();
+            if filter.asks_for(&plain.uri) {
+                let name = plain.names.in_language(locales);
+                NamedApplication { application, name }.emit_parts(out)?;
+            }
+        }
+        Ok(())
+    }
 }
 
 /// How many endpoints the request asks for.
@@ -52,7 +97,7 @@ pub(crate) fn endpoints_len<'a>(settings: &'a Settings, request: &'a GetEndpoint
     ensures length { result ≡ length (flat_map endpoint_description.canon (endpoints_found settings.now request.now)) }
     ensures few { result ≤ 1152921504606846976 }
 {
-    let application = settings.application();
+    let application = settings.first();
     let plain = application.get();
     let name = plain.names.in_language(&request.locale_ids);
     let server = NamedApplication { application, name };
@@ -80,7 +125,7 @@ fn put_endpoints<'a, S: Sink>(
     ensures ok { OnOk result (S.contents out.new ≡ S.contents out.old ++ flat_map endpoint_description.canon (endpoints_found settings.now request.now)) }
     ensures err { OnErr result (AppendsPart (S.contents out.old) (S.contents out.new) (flat_map endpoint_description.canon (endpoints_found settings.now request.now))) }
 {
-    let application = settings.application();
+    let application = settings.first();
     let plain = application.get();
     let name = plain.names.in_language(&request.locale_ids);
     let server = NamedApplication { application, name };

@@ -10,10 +10,11 @@ ghost use Rattle.ua_service.specs.declared.response.Response.TheVariants as resp
 ghost use Rattle.ua_disco.specs.Answers.{answer_of, find_servers_answer, get_endpoints_answer, unsupported};
 
 use crate::answering::BAD_SERVICE_UNSUPPORTED;
-use crate::found::{FoundEndpoints, asked_server, endpoint_count, endpoints_len};
+use crate::found::{FoundEndpoints, FoundServers, endpoint_count, endpoints_len};
 use crate::settings::Settings;
 use crate::then::Then;
 use std::marker::Model;
+use ua_choice::Filter;
 use ua_service::encoding::{FIND_SERVERS_RESPONSE, GET_ENDPOINTS_RESPONSE, SERVICE_FAULT};
 use ua_service::{
     FindServersRequest, GetEndpointsRequest, OtherRequest, Request, RequestHeader, response_head,
@@ -104,19 +105,22 @@ impl Head {
 }
 
 /// The number of bytes of the answer to a request for servers.
-#[tactic(auto, unfolding(ua_service::specs::Discovery::find_servers_response, ua_value::specs::Array::array))]
+#[tactic(auto, unfolding(crate::specs::Answers::servers_found, ua_service::specs::Discovery::find_servers_response, ua_value::specs::Array::array))]
 fn servers_body_len(settings: &Settings, request: &FindServersRequest, now: i64) -> u64
     ensures { result ≡ length (canon_response (responses.FindServers (find_servers_answer settings.now request.now now))) }
 {
     let head = Head::good(FIND_SERVERS_RESPONSE, now, &request.header);
-    match asked_server(settings, request) {
-        Some(server) => head.len() + 4 + server.len(),
-        None => head.len() + 4,
-    }
+    let filter = Filter::new(settings.alloc(), &request.server_uris);
+    let found = FoundServers {
+        listed: settings.applications(),
+        filter: &filter,
+        locales: &request.locale_ids,
+    };
+    head.len() + 4 + found.len()
 }
 
 /// Puts the answer to a request for servers.
-#[tactic(auto, unfolding(ua_service::specs::Discovery::find_servers_response, ua_value::specs::Array::array, ua_value::specs::Number::unsigned))]
+#[tactic(auto, unfolding(crate::specs::Answers::servers_found, ua_service::specs::Discovery::find_servers_response, ua_value::specs::Array::array, ua_value::specs::Number::unsigned))]
 fn put_servers_body<S: Sink>(
     settings: &Settings,
     request: &FindServersRequest,
@@ -127,10 +131,14 @@ fn put_servers_body<S: Sink>(
     ensures err { OnErr result (AppendsPart (S.contents sink.old) (S.contents sink.new) (canon_response (responses.FindServers (find_servers_answer settings.now request.now now)))) }
 {
     let head = Head::good(FIND_SERVERS_RESPONSE, now, &request.header);
-    match asked_server(settings, request) {
-        Some(server) => head.put_before((&1_u32, server), sink),
-        None => head.put_before(&0_u32, sink),
-    }
+    let filter = Filter::new(settings.alloc(), &request.server_uris);
+    let found = FoundServers {
+        listed: settings.applications(),
+        filter: &filter,
+        locales: &request.locale_ids,
+    };
+    let count = found.count() as u32;
+    head.put_before((&count, found), sink)
 }
 
 /// The number of bytes of the answer to a request for endpoints.
@@ -191,8 +199,9 @@ fn put_fault_body<S: Sink>(request: &OtherRequest, now: i64, sink: &mut S) -> Re
 }
 
 /// What a server with these settings says to a request at the moment `now`, in ticks of 100 ns since 1601-01-01 UTC: the
-/// body of the response that `answer` makes, lent (OPC 10000-4, 5.5). It takes no memory; the settings and the request are
-/// read when its length or its bytes are asked for, and nothing of them is copied but into the sink.
+/// body of the response that `answer` makes, lent (OPC 10000-4, 5.5). The settings and the request are read when its length
+/// or its bytes are asked for, and nothing of them is copied but into the sink, and of a request with over sixteen
+/// ServerUris these, while they are looked up; where the room for that is refused, that takes longer.
 pub fn lent_answer<'a>(settings: &'a Settings, request: &'a Request, now: i64) -> LentAnswer<'a>
     ensures { result ≡ canon_response (answer_of settings.now request.now now) }
 {

@@ -2,19 +2,21 @@
 
 ghost use Rattle.std.specs.Prelude.{◌≡◌, option_copied};
 ghost use Rattle.ua_disco.specs.Bounds.{IsLimits, IsConfiguration};
-ghost use Rattle.ua_disco.specs.Settings.{first_url_of};
+ghost use Rattle.ua_disco.specs.Settings.{first_application, first_uri_of, first_url_of};
 ghost use Rattle.ua_disco.specs.Values.{AreSettings};
 
 use crate::spelled::{SpelledApplication, SpelledEndpoint};
+use std::alloc::Global;
 use std::marker::Model;
 use ua_frame::Limits;
 use ua_value::UaString;
 
-/// What a server is set up to be: its limits, its application and its endpoints.
+/// What a server is set up to be: its limits, its applications, of which the first is the server of its endpoints, and
+/// these endpoints.
 #[derive(Drop)]
 pub struct Settings {
     pub(crate) limits: Limits,
-    pub(crate) application: SpelledApplication,
+    pub(crate) applications: Vec<SpelledApplication>,
     pub(crate) endpoints: Vec<SpelledEndpoint>,
 }
 
@@ -24,9 +26,9 @@ impl Model for Settings {
 
     ghost Value = { Configuration };
 
-    ghost view = { λ a. record { limits = a.limits; application = a.application; endpoints = a.endpoints.items } };
+    ghost view = { λ a. record { limits = a.limits; applications = a.applications.items; endpoints = a.endpoints.items } };
 
-    ghost invariant = { λ a. AreSettings (record { limits = a.limits; application = a.application; endpoints = a.endpoints.items }) };
+    ghost invariant = { λ a. AreSettings (record { limits = a.limits; applications = a.applications.items; endpoints = a.endpoints.items }) };
 }
 
 impl Settings {
@@ -40,11 +42,24 @@ impl Settings {
         self.limits
     }
 
-    pub(crate) fn application(&self) -> &SpelledApplication
-        ensures application { result.now ≡ self.now.application }
+    pub(crate) fn applications(&self) -> &[SpelledApplication]
+        ensures applications { result.now ≡ self.now.applications }
         ensures within { IsConfiguration self.now }
     {
-        &self.application
+        self.applications.as_slice()
+    }
+
+    /// The first application, which is the server of each endpoint.
+    pub(crate) fn first(&self) -> &SpelledApplication
+        ensures application { result.now ≡ first_application self.now.applications }
+        ensures within { IsConfiguration self.now }
+    {
+        &self.applications[0]
+    }
+
+    /// Where the memory of the settings is taken from.
+    pub(crate) fn alloc(&self) -> Global {
+        *self.applications.allocator()
     }
 
     pub(crate) fn endpoints(&self) -> &[SpelledEndpoint]
@@ -54,11 +69,11 @@ impl Settings {
         self.endpoints.as_slice()
     }
 
-    /// The URI of its application.
+    /// The URI of its first application.
     pub fn first_uri(&self) -> &UaString
-        ensures { result.now ≡ self.now.application.uri }
+        ensures { result.now ≡ first_uri_of self.now.applications }
     {
-        &self.application.get().uri
+        &self.first().get().uri
     }
 
     /// The url of its first endpoint; `None` where it has none.

@@ -4,8 +4,8 @@ ghost use Rattle.std.specs.Prelude.{◌≡◌, ◌<◌, ◌≤◌, ◌-◌, ◌^
 
 use crate::runs::Page;
 use crate::vectors::{
-    ABORT_TOO_LARGE, ACKNOWLEDGE, CLOSE_REQUEST, ENDPOINTS_RESPONSE, FAULT_RESPONSE, FIND_REQUEST,
-    FIND_RESPONSE, OPEN_RESPONSE, REVERSE_HELLO,
+    ABORT_TOO_LARGE, ACKNOWLEDGE, BOTH_FOUND, CLOSE_REQUEST, ENDPOINTS_RESPONSE, FAULT_RESPONSE,
+    FIND_REQUEST, FIND_RESPONSE, OPEN_RESPONSE, REVERSE_HELLO,
 };
 use std::alloc::Global;
 use ua_command::{Question, ask_over};
@@ -15,6 +15,9 @@ const URL: &str = "opc.tcp://localhost:4840";
 
 pub(crate) const PRESS: &str =
     "application \"urn:a\" type=0 name=\"Press\"\n  url \"opc.tcp://localhost:4840\"\n";
+
+const PRESS_AND_OVEN: &str =
+    "application \"urn:a\" type=0 name=\"Press\"\n  url \"opc.tcp://localhost:4840\"\napplication \"urn:b\" type=0 name=\"Oven\"\n";
 
 pub(crate) const ENDPOINT: &str =
     "endpoint \"opc.tcp://localhost:4840\" mode=1 policy=\"http://opcfoundation.org/UA/SecurityPolicy#None\" transport=\"http://opcfoundation.org/UA-Profile/Transport/uatcp-uasc-uabinary\" level=0\n";
@@ -87,6 +90,7 @@ fn opened(alloc: Global, question: Question, said: &[u8], status: u8, output: &s
 fn a_server_answers(rt: HostRuntime) {
     let alloc = rt.alloc();
     assert!(rt; opened(alloc, Question::Find, FIND_RESPONSE, 0, PRESS));
+    assert!(rt; opened(alloc, Question::Find, BOTH_FOUND, 0, PRESS_AND_OVEN));
     assert!(rt; opened(alloc, Question::Endpoints, ENDPOINTS_RESPONSE, 0, ENDPOINT));
 }
 

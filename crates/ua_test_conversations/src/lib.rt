@@ -7,6 +7,8 @@
 #[cfg(test)]
 mod answers;
 #[cfg(test)]
+mod applications;
+#[cfg(test)]
 mod assembling;
 #[cfg(test)]
 mod by_parts;
@@ -84,5 +86,7 @@ mod telling;
 mod tokens;
 #[cfg(test)]
 mod vectors;
+#[cfg(test)]
+mod versions;
 #[cfg(test)]
 mod writing;

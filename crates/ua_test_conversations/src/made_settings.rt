@@ -1,4 +1,4 @@
-//! Settings that follow from a number: several endpoints, certificates, tokens, and texts of drawn lengths.
+//! Settings that follow from a number: one application or several, several endpoints, certificates, tokens, and texts of drawn lengths.
 
 use std::alloc::{AllocError, Global};
 
@@ -68,8 +68,8 @@ fn put_some_key(
     put_key(draw, key, most, behind, text)
 }
 
+/// The keys of an application.
 fn put_application(draw: &mut Draw, most: u32, text: &mut String) -> Result<(), AllocError> {
-    text.push_str("version = 1\n[application]\n")?;
     put_key(draw, "uri", most, "\n", text)?;
     put_some_key(draw, "product_uri", most, "\n", text)?;
     put_some_key(draw, "gateway_uri", most, "\n", text)?;
@@ -130,6 +130,20 @@ fn put_endpoint(draw: &mut Draw, most: u32, text: &mut String) -> Result<(), All
     put_tokens(draw, most, text)
 }
 
+/// An application under version 1, or up to three under version 2.
+fn put_applications(draw: &mut Draw, most: u32, text: &mut String) -> Result<(), AllocError> {
+    if draw.below(2) == 0 {
+        text.push_str("version = 1\n[application]\n")?;
+        return put_application(draw, most, text);
+    }
+    text.push_str("version = 2\n")?;
+    for _ in 0..=draw.below(3) {
+        text.push_str("[[application]]\n")?;
+        put_application(draw, most, text)?;
+    }
+    Ok(())
+}
+
 /// The text of settings with up to four endpoints, and texts of so many pieces at the most.
 pub(crate) fn made(alloc: Global, draw: &mut Draw, most: u32) -> Result<String, AllocError> {
     let mut text = String::new(alloc);
@@ -140,7 +154,7 @@ pub(crate) fn made(alloc: Global, draw: &mut Draw, most: u32) -> Result<String, 
 }
 
 fn put_all(draw: &mut Draw, most: u32, text: &mut String) -> Result<(), AllocError> {
-    put_application(draw, most, text)?;
+    put_applications(draw, most, text)?;
     for _ in 0..draw.below(5) {
         put_endpoint(draw, most, text)?;
     }

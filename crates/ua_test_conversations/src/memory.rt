@@ -208,26 +208,41 @@ fn settings_and_answers_or_no_memory(rt: HostRuntime) {
     assert!(rt; default_answers_or_no_memory(rt.alloc()));
 }
 
+/// Whether settings of the text answer the request of this body so where memory is there.
+pub(crate) fn answers_or_no_memory(
+    alloc: Global,
+    text: &str,
+    request: &[u8],
+    answer: &[u8],
+) -> bool {
+    match Settings::from_toml(alloc, text.as_bytes()) {
+        Ok(settings) => is_answered_or_no_memory::<Request>(alloc, &settings, request, answer),
+        Err(fault) => matches!(&fault, SettingsFault::NoMemory),
+    }
+}
+
 /// Settings whose fault is that of an item, whose key grows by parts.
 const REFUSED: &str =
     "version = 1\n[application]\nuri = \"u\"\nnames = [{ text = \"n\" }]\n[[endpoint]]\nurl = \"u\"\ntokens = [{ id = \"0\" }, { id = \"1\", type = 4 }]\n";
 
-fn is_type_or_no_memory(fault: &SettingsFault) -> bool {
+fn is_value_or_no_memory(fault: &SettingsFault, bad: &str) -> bool {
     match fault {
         SettingsFault::NoMemory => true,
-        SettingsFault::BadValue(key) => key.as_str() == "endpoint.0.tokens.1.type",
+        SettingsFault::BadValue(key) => key.as_str() == bad,
         _ => false,
     }
 }
 
-fn is_refused_or_no_memory(alloc: Global) -> bool {
-    let fault = Settings::from_toml(alloc, REFUSED.as_bytes()).err();
-    passes(fault, |fault| is_type_or_no_memory(fault))
+/// Whether settings of the text are refused for the value of this key, where memory is there.
+pub(crate) fn is_bad_or_no_memory(alloc: Global, text: &str, bad: &str) -> bool {
+    let fault = Settings::from_toml(alloc, text.as_bytes()).err();
+    passes(fault, |fault| is_value_or_no_memory(fault, bad))
 }
 
 #[test]
 fn refused_settings_or_no_memory(rt: HostRuntime) {
-    assert!(rt; is_refused_or_no_memory(rt.alloc()));
+    let alloc = rt.alloc();
+    assert!(rt; is_bad_or_no_memory(alloc, REFUSED, "endpoint.0.tokens.1.type"));
 }
 
 /// An opening with two requests.

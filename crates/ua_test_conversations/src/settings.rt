@@ -29,7 +29,7 @@ fn is_refused(alloc: Global, front: &str, more: &str, fault: &str) -> bool {
 }
 
 /// The first text of the rows that, behind the front, has another first fault.
-fn other<'a>(alloc: Global, front: &str, rows: &[(&'a str, &str)]) -> Option<&'a str> {
+pub(crate) fn other<'a>(alloc: Global, front: &str, rows: &[(&'a str, &str)]) -> Option<&'a str> {
     for (more, fault) in rows {
         if !is_refused(alloc, front, more, fault) {
             return Some(*more);
@@ -47,7 +47,7 @@ const WHOLE: [(&str, &str); 24] = [
     ("application = 1", "settings 2 version"),
     ("version = \"1\"", "settings 3 version"),
     ("version = 1.0", "settings 3 version"),
-    ("version = 2", "settings 4 version"),
+    ("version = 3", "settings 4 version"),
     ("version = 0", "settings 4 version"),
     ("version = -1", "settings 4 version"),
     ("version = 4294967297", "settings 4 version"),
@@ -314,7 +314,7 @@ const LONG: [(&str, &str, usize, &str, &str); 8] = [
     ),
 ];
 
-fn is_bounded(
+pub(crate) fn is_bounded(
     alloc: Global,
     front: &str,
     part: &str,

@@ -18,7 +18,8 @@ use Rattle.ua_frame.specs.declared.reverse_hello.ReverseHello.{ReverseHello}
 use Rattle.ua_disco.specs.Configuration.{Configuration}
 use Rattle.ua_disco.specs.Settings.{first_url_of}
 use Rattle.ua_disco.specs.Bounds.{IsShort, IsEndpoint}
-use Rattle.ua_disco.specs.Values.{IsEndpointValue}
+use Rattle.ua_disco.specs.Values.{IsApplicationValue, IsEndpointValue}
+use Rattle.ua_disco.specs.Sizes.{first_of_all}
 use Rattle.ua_disco.specs.declared.endpoint.Endpoint.{Endpoint}
 use Rattle.ua_conn.specs.server.Greeting.{reverse_hello_by, reverse_fault, reverse_fault_at, greeting, greeting_at}
 use Rattle.ua_conn.specs.server.Faults.{fault_in_rest}
@@ -87,7 +88,7 @@ calls_of s h own = by (first_url_of settings.endpoints) refl
           hello = hello;
           says = ap (greeting_at settings) e;
           frame = frame;
-          read = reverse_hello_frame_read hello (omega (arith, fits)) (values.application.uri, first.1);
+          read = reverse_hello_frame_read hello (omega (arith, fits)) ((first_of_all IsApplicationValue settings.applications values.bounds.some values.applications).uri, first.1);
           passes = header_passes 8192 (reverse_hello_frame hello) _ frame refl fits;
           short = first.0;
           text = first.1;

@@ -12,7 +12,7 @@ use Rattle.ua_value.specs.Localized.{localized_text}
 use Rattle.ua_service.specs.Endpoint.{user_token_policy}
 use Rattle.ua_disco.specs.Bounds.{IsConfiguration}
 use Rattle.ua_disco.specs.Values.{IsApplicationValue, IsEndpointValue, AreSettings}
-use Rattle.ua_conn.proofs.Vectors.{settings, endpoint}
+use Rattle.ua_conn.proofs.Vectors.{settings, application, endpoint}
 
 text_value : (text : List ℕ) → length text ≤ 2147483647 → is_utf8 text ≡ true → string.IsValue (Some text)
 unfolding bytes_of
@@ -25,12 +25,14 @@ none_value = tt
 bounds : IsConfiguration settings
 bounds = record {
   limits = record { receive_least = lit≤ tt; receive_most = lit≤ tt; send_least = lit≤ tt; send_most = lit≤ tt; message_least = lit≤ tt; message_most = lit≤ tt; chunks_least = lit≤ tt; chunks_most = lit≤ tt };
-  application = record { uri = lit≤ tt; product_uri = lit≤ tt; named = lit< tt; names = (record { locale = lit≤ tt; text = lit≤ tt }, tt); gateway_uri = tt; profile_uri = tt; discovery_urls = (lit≤ tt, (lit≤ tt, tt)) };
+  some = lit< tt;
+  number = lit≤ tt;
+  applications = (record { uri = lit≤ tt; product_uri = lit≤ tt; named = lit< tt; names = (record { locale = lit≤ tt; text = lit≤ tt }, tt); gateway_uri = tt; profile_uri = tt; discovery_urls = (lit≤ tt, (lit≤ tt, tt)) }, tt);
   count = lit≤ tt;
   endpoints = (record { url = lit≤ tt; policy = lit≤ tt; certificate = tt; transport = lit≤ tt; tokens = (lit≤ tt, (record { policy_id = lit≤ tt; issued_token_type = tt; issuer_endpoint_url = tt; security_policy_uri = tt }, tt)) }, tt);
 }
 
-application_is : IsApplicationValue settings.application
+application_is : IsApplicationValue application
 unfolding is_utf8 chars encode localized_text array bytes_of
 application_is = record {
   uri = text_value _ (lit≤ tt) refl;
@@ -60,4 +62,4 @@ endpoint_is = record {
 
 -- the settings of the worked rows
 pub settings_are : AreSettings settings
-settings_are = record { bounds = bounds; application = application_is; endpoints = (endpoint_is, tt) }
+settings_are = record { bounds = bounds; applications = (application_is, tt); endpoints = (endpoint_is, tt) }

@@ -10,7 +10,7 @@ use Rattle.ua_frame.specs.Layout.{Parts}
 use Rattle.ua_frame.specs.LayoutLaws.{frame_bytes_length}
 use Rattle.ua_frame.specs.declared.reverse_hello.ReverseHello.{ReverseHello}
 use Rattle.ua_disco.specs.Configuration.{Configuration}
-use Rattle.ua_disco.specs.Settings.{first_url_of}
+use Rattle.ua_disco.specs.Settings.{first_uri_of, first_url_of}
 use Rattle.ua_conn.specs.server.Greeting.{reverse_hello_by, reverse_fault_at, reverse_fault}
 use Rattle.ua_conn.specs.declared.server.greeting.ReverseFault.{ReverseFault}
 use Rattle.ua_conn.specs.declared.server.greeting.ReverseFault.TheVariants.{TooLarge}
@@ -28,15 +28,15 @@ short_at : (settings : Configuration) (url : Option (List ℕ)) → length (reve
 short_at settings url l = rw (le-ltb 8192 (length (reverse_hello_frame (reverse_hello_by settings url))) l) refl
 
 -- the frame by the settings, from the lengths of its texts as they are spelled
-size_is : (settings : Configuration) (uri url : Option (List ℕ)) (n m : ℕ) → uri ≡ settings.application.uri → n ≡ length (string.canon uri) → m ≡ length (string.canon url) →
+size_is : (settings : Configuration) (uri url : Option (List ℕ)) (n m : ℕ) → uri ≡ first_uri_of settings.applications → n ≡ length (string.canon uri) → m ≡ length (string.canon url) →
     length (reverse_hello_frame (reverse_hello_by settings url)) ≡ 8 + n + m
 size_is settings uri url n m u a b = omega (arith, frame_size (reverse_hello_by settings url), ap (λ (t : Option (List ℕ)). length (string.canon t)) u, a, b)
 
-pub too_large : (settings : Configuration) (uri url : Option (List ℕ)) (n m : ℕ) → uri ≡ settings.application.uri → Some url ≡ first_url_of settings.endpoints → n ≡ length (string.canon uri) → m ≡ length (string.canon url) →
+pub too_large : (settings : Configuration) (uri url : Option (List ℕ)) (n m : ℕ) → uri ≡ first_uri_of settings.applications → Some url ≡ first_url_of settings.endpoints → n ≡ length (string.canon uri) → m ≡ length (string.canon url) →
     8192 < 8 + n + m → reverse_fault settings ≡ Some TooLarge
 too_large settings uri url n m u e a b l = ap (reverse_fault_at settings) (sym e) ∙ long_at settings url (omega (arith, size_is settings uri url n m u a b, l))
 
-pub none_wrong : (settings : Configuration) (uri url : Option (List ℕ)) (n m : ℕ) → uri ≡ settings.application.uri → Some url ≡ first_url_of settings.endpoints → n ≡ length (string.canon uri) → m ≡ length (string.canon url) →
+pub none_wrong : (settings : Configuration) (uri url : Option (List ℕ)) (n m : ℕ) → uri ≡ first_uri_of settings.applications → Some url ≡ first_url_of settings.endpoints → n ≡ length (string.canon uri) → m ≡ length (string.canon url) →
     8 + n + m ≤ 8192 → reverse_fault settings ≡ None
 none_wrong settings uri url n m u e a b l = ap (reverse_fault_at settings) (sym e) ∙ short_at settings url (omega (arith, size_is settings uri url n m u a b, l))
 
@@ -52,7 +52,7 @@ frame_fits settings url e fine =
     ltb-false 8192 (length frame) (short_by (nat_lt 8192 (length frame)) none)
 
 -- its texts
-pub texts_fit : (settings : Configuration) (uri url : Option (List ℕ)) → uri ≡ settings.application.uri → first_url_of settings.endpoints ≡ Some url → reverse_fault settings ≡ None → text_bytes uri + text_bytes url ≤ 4294967279
+pub texts_fit : (settings : Configuration) (uri url : Option (List ℕ)) → uri ≡ first_uri_of settings.applications → first_url_of settings.endpoints ≡ Some url → reverse_fault settings ≡ None → text_bytes uri + text_bytes url ≤ 4294967279
 texts_fit settings uri url u e fine =
     let short = frame_fits settings url e fine in
-    omega (arith, short, frame_size (reverse_hello_by settings url), text_length settings.application.uri, text_length url, ap text_bytes u)
+    omega (arith, short, frame_size (reverse_hello_by settings url), text_length (first_uri_of settings.applications), text_length url, ap text_bytes u)

@@ -3,13 +3,13 @@ use Rattle.std.specs.Prelude.{Bool, true, false, nat_lt, List, ℕ, [], length, 
 use Rattle.ua_frame.specs.Hello.{reverse_hello_frame}
 use Rattle.ua_frame.specs.declared.reverse_hello.ReverseHello.{ReverseHello}
 use Rattle.ua_disco.specs.Configuration.{Configuration}
-use Rattle.ua_disco.specs.Settings.{first_url_of}
+use Rattle.ua_disco.specs.Settings.{first_uri_of, first_url_of}
 use Rattle.ua_conn.specs.declared.server.greeting.ReverseFault.{ReverseFault}
 use Rattle.ua_conn.specs.declared.server.greeting.ReverseFault.TheVariants.{NoEndpoint, TooLarge}
 
--- the URI of the application, and the url of an endpoint
+-- the URI of the first application, and the url of an endpoint
 abbrev pub reverse_hello_by : Configuration → Option (List ℕ) → ReverseHello
-reverse_hello_by settings url = record { server_uri = settings.application.uri; endpoint_url = url }
+reverse_hello_by settings url = record { server_uri = first_uri_of settings.applications; endpoint_url = url }
 
 abbrev pub reverse_fault_at : Configuration → Option (Option (List ℕ)) → Option ReverseFault
 reverse_fault_at settings None = Some NoEndpoint

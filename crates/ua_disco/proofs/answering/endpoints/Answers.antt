@@ -7,4 +7,4 @@ pub returns-clause-found : goal.returns-clause-found
 unfolding endpoints_found
 returns-clause-found c =
     let whole = take_all c.loop-endpoint.endpoint-index c.endpoints-offered.result.now c.loop-endpoint-test.false in
-    (c.loop-endpoint.invariant).1 ∙ rw (whole, c.endpoints-offered.ensures.endpoints, c.in_language-name.ensures, c.get-application.ensures, c.application.ensures.application) refl
+    (c.loop-endpoint.invariant).1 ∙ rw (whole, c.endpoints-offered.ensures.endpoints, c.in_language-name.ensures, c.get-application.ensures, c.first.ensures.application) refl

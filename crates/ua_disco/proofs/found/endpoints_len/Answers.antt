@@ -14,9 +14,9 @@ unfolding endpoints_found
 overflow_add-total c =
     let canon = endpoint_description.canon in
     let asked : Endpoint → Bool = λ e. is_asked c.args.request.now.profile_uris e.transport in
-    let described = described_endpoint c.application-application.result.now c.in_language-name.result.now in
+    let described = described_endpoint c.first-application.result.now c.in_language-name.result.now in
     let all : flat_map canon (map described (filter asked c.endpoints-offered.result.now)) ≡ flat_map canon (endpoints_found c.args.settings.now c.args.request.now) =
-    rw (c.endpoints-offered.ensures.endpoints, c.in_language-name.ensures, c.get-plain.ensures, c.application-application.ensures.application) refl in
+    rw (c.endpoints-offered.ensures.endpoints, c.in_language-name.ensures, c.get-plain.ensures, c.first-application.ensures.application) refl in
     omega (
       arith,
       (c.loop-endpoint.invariant).1,
@@ -30,7 +30,7 @@ pub returns-clause-length : goal.returns-clause-length
 unfolding endpoints_found
 returns-clause-length c =
     let whole = take_all c.loop-endpoint.endpoint-index c.endpoints-offered.result.now c.loop-endpoint-test.false in
-    (c.loop-endpoint.invariant).1 ∙ rw (whole, c.endpoints-offered.ensures.endpoints, c.in_language-name.ensures, c.get-plain.ensures, c.application-application.ensures.application) refl
+    (c.loop-endpoint.invariant).1 ∙ rw (whole, c.endpoints-offered.ensures.endpoints, c.in_language-name.ensures, c.get-plain.ensures, c.first-application.ensures.application) refl
 
 pub returns-clause-few : goal.returns-clause-few
 returns-clause-few c = rw (returns-clause-length c) (endpoints_size c.args.settings.now c.args.request.now c.endpoints-offered.ensures.within)
