@@ -94,7 +94,8 @@ fn refuses_settings(rt: HostRuntime) {
         ("version =", "settings 1\n"),
         ("", "settings 2 version\n"),
         ("version = \"1\"", "settings 3 version\n"),
-        ("version = 2", "settings 4 version\n"),
+        ("version = 3", "settings 4 version\n"),
+        ("version = 2", "settings 2 application\n"),
         ("x = 1", "settings 5 x\n"),
         (
             "version = 1\n[application]\nuri = \"urn:a\"\nnames = [{ text = \"A\" }, { text = 7 }]\n",
