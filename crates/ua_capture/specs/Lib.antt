@@ -1,0 +1,12 @@
+pub mod Number
+pub mod Link
+pub mod Ip
+pub mod Tcp
+pub mod Segment
+pub mod Packet
+pub mod Moment
+pub mod Pcap
+pub mod Options
+pub mod Pcapng
+pub mod File
+pub mod Reading
