@@ -7,12 +7,13 @@ import subprocess
 import tempfile
 import threading
 
-from try_edits.edits import functions_of, key_of, read, sources, write
+from try_edits.edits import functions_of, key_of, may_share, read, sources, write
 
 PARTS = ("src", "specs", "proofs")
 HARMLESS = "let _harmless = 0u8;"
 
-# What a check said of a function: whether it is proved, its open goals by name, where they are, and the errors in its proof files.
+# What a check said of a function: whether it is proved, its open goals by name, where they are, and the errors in its proof files,
+# each with the answer that it is in.
 Verdict = collections.namedtuple("Verdict", "proved goals notes errors")
 
 
@@ -152,7 +153,7 @@ def verdicts_of(said):
     for error in filter(None, map(OF_PROOF_FILE.match, lines)):
         path = path_of_proofs(tuple(error[1].split("/")), error[2] or "", verdicts)
         if path in verdicts:
-            verdicts[path].errors.append(error[3])
+            verdicts[path].errors.append((error[2] or "", error[3]))
     return {path: of_its_own(path, verdicts) for path in verdicts}
 
 
@@ -182,9 +183,20 @@ def why_refused(verdict):
         return None
     if verdict.goals:
         return "goal"
-    if any(not NAME_IS_GONE.search(it) for it in verdict.errors):
+    if any(not NAME_IS_GONE.search(it) for _, it in verdict.errors):
         return "proof file"
     return "name" if verdict.errors else None
+
+
+def of_arm(verdict, variant, others):
+    """What a verdict says of an arm of a `match`: its goals, whose names have the steps to them, and the errors in their answers. Those
+    on whose way one of the other arms is are not among them."""
+
+    def is_of_it(goal):
+        steps = {*re.findall(r"(?:\A|-)in-(\w+)", goal)}
+        return variant in steps and not others & steps
+
+    return verdict._replace(goals={*filter(is_of_it, verdict.goals)}, errors=[it for it in verdict.errors if is_of_it(it[0])])
 
 
 def module_of(file):
@@ -257,28 +269,73 @@ class Checked:
                 paths.append(path)
         return {path: why for path, why in self.refused().items() if path in paths}
 
+    def refused_in_arm(self, function, variant, others):
+        """The same of an arm of it, where other arms of the `match` are changed too."""
+        found = {path: why_refused(of_arm(self.verdicts[path], variant, others)) for path in self.refused_in(function)}
+        return {path: why for path, why in found.items() if why}
+
 
 # (a capital begins what makes a value, as `Some(`)
 CALLS = re.compile(r"\b[a-z_]\w*\(|[?!\[]|\bfor\b")
 
 
-def control_of(crate, batch):
-    """A function that has no proof file and is not changed by the batch: the shortest that calls nothing, or else the shortest of
-    a file that is not changed, since what calls a changed function is hidden by it, or else the shortest."""
-    taken = {key_of(it) for place in batch for it in place.functions}
-    changed = {pair.file for place in batch for pair in place.pairs}
-    found = []
+def is_proved_by_itself(crate, function):
+    """Whether a function may be a control: it has a body of its own lines, is no test, and has no proof file."""
+    proofs = f"{crate.folder}/proofs/{'/'.join(module_of(function.file))}"
+    return function.first < function.last and not re.search(r"\btests?\b", function.file) and not has_proofs(proofs, function.name)
+
+
+def bodies_of(crate):
+    """The functions of a crate with their bodies."""
     for path in sources(crate.folder):
         file = os.path.relpath(path, crate.folder)
         lines = read(path).split("\n")
         for it in functions_of(file, "\n".join(lines)):
-            body = "\n".join(lines[it.body : it.last - 1])
-            is_body = it.first < it.last and not re.search(r"\btests?\b", file)
-            proofs = f"{crate.folder}/proofs/{'/'.join(module_of(file))}"
-            if is_body and key_of(it) not in taken and not has_proofs(proofs, it.name):
-                calls = bool(CALLS.search(body))
-                found.append((calls, calls and file in changed, len(body), it))
-    return min(found, key=lambda it: (*it[:3], it[3].file, it[3].first))[3] if found else None
+            yield it, "\n".join(lines[it.body : it.last - 1])
+
+
+def hidden_by(names, bodies):
+    """The names of the functions that may be hidden by those with these names: they name one of them, or what does."""
+    hidden, words = set(names), {it.name: set() for it, _ in bodies}
+    for it, body in bodies:
+        words[it.name] |= set(re.findall(r"\w+", body))
+    grown = True
+    while grown:
+        more = {name for name, named in words.items() if name not in hidden and named & hidden}
+        hidden, grown = hidden | more, bool(more)
+    return hidden
+
+
+def control_of(crate, batch):
+    """A function that has no proof file and is not changed by the batch: the shortest that calls nothing, or else the shortest of
+    those that name nothing that is changed, or that such a function hides, of a file that is not changed where there is one."""
+    taken = {key_of(it) for place in batch for it in place.functions}
+    changed = {pair.file for place in batch for pair in place.pairs}
+    bodies = list(bodies_of(crate))
+    hidden = hidden_by({name for _, _, name in taken}, bodies)
+    found = []
+    for it, body in bodies:
+        if key_of(it) not in taken and is_proved_by_itself(crate, it):
+            calls = bool(CALLS.search(body))
+            is_hidden = calls and bool(hidden & {*re.findall(r"\w+", body)})
+            found.append((is_hidden, calls, calls and it.file in changed, len(body), it.file, it.first, it))
+    return min(found, key=lambda it: it[:-1])[-1] if found else None
+
+
+def with_controls(crate, batches):
+    """The batches, but of one that changes every function that might be its control, one place is taken out: it goes with others, or alone."""
+    for batch in list(batches):
+        spare = [it for it in batch if len(it.pairs) == len(it.functions) == 1 and is_proved_by_itself(crate, it.functions[0])]
+        if len(batch) == 1 or control_of(crate, batch) or not spare:
+            continue
+        place = min(spare, key=lambda it: it.functions[0].last - it.functions[0].body)
+        batch.remove(place)
+        free = [it for it in batches if it is not batch and len(it) > 1 and all(may_share(place, other) for other in it)]
+        if free:
+            free[-1].append(place)
+        else:
+            batches.append([place])
+    return batches
 
 
 def has_proofs(folder, name):

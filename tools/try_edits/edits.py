@@ -11,9 +11,12 @@ FOLDERS = ("must-fail", "wrong-bodies")
 Pair = collections.namedtuple("Pair", "file old new")
 # A function, what it stands in (`impl Wire for u32`), and the numbers of its lines: the first, that with the brace of its body, the last.
 Function = collections.namedtuple("Function", "file name owner first body last")
-# What is judged as one: some pairs of an edit, the line of the first, and the functions that they change. What changes no body
-# (a `const`, a field, a `use`) is checked alone, and judged by the functions that the other pairs change or that name the `const`.
-Place = collections.namedtuple("Place", "edit pairs line functions is_alone")
+# What is judged as one: some pairs of an edit, the line of the first, and the functions that they change. A `const` that functions
+# alone name changes these. What else changes no body (a field, a `use`, a `const` that another one names) is checked alone, and
+# judged by the functions that the other pairs change or that name the `const`. The arm is that of a `match` which one pair changes.
+Place = collections.namedtuple("Place", "edit pairs line functions is_alone arm")
+# An arm of a `match`: the line of the `match`, and the variant that the arm is for, for which the function has no other arm.
+Arm = collections.namedtuple("Arm", "match variant")
 
 
 def read(path):
@@ -123,18 +126,47 @@ def function_at(functions, line, pair):
     return found[-1] if found else None
 
 
+ARM = re.compile(r"\s*(?:\w+::)*([A-Z]\w*)(?:\([^()]*\)| \{[^{}]*\})? => ")
+
+
+def indent_of(line):
+    return len(line) - len(line.lstrip())
+
+
+def arm_of(pair, source, line, function):
+    """The arm of a `match` of which a pair changes only what stands behind its `=>`, or none."""
+    old, new = ARM.match(pair.old), ARM.match(pair.new)
+    lines = source.split("\n")
+    if not (old and new and old[0] == new[0] and pair.old.count("=>") == pair.new.count("=>") == 1):
+        return None
+    if not lines[line - 1].strip().startswith(pair.old.strip()):
+        return None
+    body = lines[function.body : function.last - 1]
+    if len([it for it in body if "=>" in it and re.search(rf"\b{old[1]}\b", it.partition("=>")[0])]) != 1:
+        return None
+    above = [at for at in range(function.body, line) if lines[at - 1].strip() and indent_of(lines[at - 1]) < indent_of(lines[line - 1])]
+    return Arm(above[-1], old[1]) if above else None
+
+
 CONST = re.compile(r"\b([A-Z][A-Z0-9_]+): ")
+# A line in which naming a `const` reads nothing of it.
+READS_NOTHING = re.compile(r"\s*(?:(?:pub(?:\([^)]*\))? )?use |//)")
 
 
 def readers_of(crate, pair):
-    """The functions that name the `const` which a pair changes."""
-    named = CONST.search(pair.old)
+    """The functions that name the `const` which a pair changes, and whether nothing else names it: no other `const`, no type, no clause."""
+    named, found, is_all = CONST.search(pair.old), [], True
     for path in sources(crate.folder) if named else ():
-        text = read(path)
-        lines = text.split("\n")
-        for it in functions_of(os.path.relpath(path, crate.folder), text):
-            if re.search(rf"\b{named[1]}\b", "\n".join(lines[it.body - 1 : it.last])):
-                yield it
+        file, text = os.path.relpath(path, crate.folder), read(path)
+        lines, functions = text.split("\n"), functions_of(os.path.relpath(path, crate.folder), text)
+        for at, line in enumerate(lines, 1):
+            if not re.search(rf"\b{named[1]}\b", line):
+                continue
+            within = [it for it in functions if it.body <= at <= it.last]
+            found += [it for it in within if it not in found]
+            is_own = file == pair.file and pair.old in line
+            is_all = is_all and bool(within or is_own or READS_NOTHING.match(line))
+    return found, is_all and bool(found)
 
 
 def places_of(crate, edit):
@@ -156,13 +188,14 @@ def places_of(crate, edit):
         at = source.find(pair.old)
         line = source[: max(at, 0)].count("\n") + 1
         function = function_at(functions_of(pair.file, source), line, pair)
-        is_alone = is_alone or function is None
+        readers, is_read_there_alone = ([function], True) if function else readers_of(crate, pair)
+        is_alone = is_alone or not is_read_there_alone
         is_one = is_one or source.count(pair.old) != 1 or function is None
-        places.append(Place(edit, [pair], line, [function] if function else list(readers_of(crate, pair)), False))
+        places.append(Place(edit, [pair], line, readers, False, arm_of(pair, source, line, function) if function else None))
     if not is_one:
         return places, None
     functions = list(dict.fromkeys(function for it in places for function in it.functions))
-    return [Place(edit, pairs, places[0].line, functions, is_alone)], None
+    return [Place(edit, pairs, places[0].line, functions, is_alone, None)], None
 
 
 def edits_of(crate):
@@ -181,17 +214,22 @@ def key_of(function):
     return function.file, function.owner, function.name
 
 
+def may_share(place, other):
+    """Whether two places may be in one check: they change no function both, or in it other arms of one `match`."""
+    if not {key_of(it) for it in place.functions} & {key_of(it) for it in other.functions}:
+        return True
+    return bool(place.arm and other.arm) and place.arm.match == other.arm.match and place.arm.variant != other.arm.variant
+
+
 def batches_of(places):
-    """Groups the places, the largest group first, so that no function is changed twice in a group. What changes no body, or is several pairs, is a group of its own."""
+    """Groups the places, the largest group first, so that any two of a group may share a check. What changes no body, or is several pairs, is a group of its own."""
     batches = []
     for place in places:
         is_alone = place.is_alone or len(place.pairs) > 1
-        keys = {key_of(it) for it in place.functions}
-        for batch, taken in [] if is_alone else batches:
-            if taken and not keys & taken:
+        for batch, is_open in [] if is_alone else batches:
+            if is_open and all(may_share(place, it) for it in batch):
                 batch.append(place)
-                taken |= keys
                 break
         else:
-            batches.append(([place], set() if is_alone else keys))
+            batches.append(([place], not is_alone))
     return sorted((batch for batch, _ in batches), key=len, reverse=True)

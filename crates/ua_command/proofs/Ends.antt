@@ -1,14 +1,16 @@
 -- How each command is done or stopped, by what it ensures.
-use Rattle.std.proofs.Common.{◌≡◌, ◌≤◌, inl, sym, subst, ℕ, Bool, List, String, string_bytes, length, Option, Some, None, option_map, IfSome, Result, Ok, Err, IfOk, IfErr}
+use Rattle.std.proofs.Common.{◌≡◌, ◌≤◌, inl, inr, sym, subst, ℕ, Bool, false, List, String, string_bytes, length, Option, Some, None, option_map, IfSome, Result, Ok, Err, IfOk, IfErr}
 use Rattle.std.proofs.lemmas.Option.{same_Some}
 use Rattle.std.specs.Borrow.{Bor}
 use Rattle.std.specs.Global.{Global, Vec}
 use Rattle.clap.specs.Words.{Text}
 use Rattle.ua_command.specs.Answer.{AnswersBy}
-use Rattle.ua_command.specs.Ask.{IsAskStatus}
+use Rattle.ua_command.specs.Ask.{IsAskStatus, IsReachStop}
 use Rattle.ua_command.specs.Command.{AsksFor, IsUrlOf}
 use Rattle.ua_command.specs.Printed.{shape_of, PrintsOnto, RefusesOnto}
-use Rattle.ua_command.specs.Run.{Streams, IsDone, IsStop}
+use Rattle.ua_command.specs.Run.{Streams, IsDone, IsStop, IsOverLinks, RefusesSettingsOf, LeavesInput}
+use Rattle.ua_command.specs.Settings.{RefusesSource}
+use Rattle.ua_disco.specs.declared.fault.SettingsFault.{SettingsFault}
 use Rattle.ua_command.specs.Serve.{Serves, IsServeStop}
 use Rattle.ua_command.specs.Show.{ShowsCapture}
 use Rattle.ua_command.specs.Stop.{IsAnswerStop, IsFileStop}
@@ -17,7 +19,7 @@ use Rattle.ua_command.specs.declared.ask.Question.{Question}
 use Rattle.ua_command.specs.declared.settings.Source.{Source}
 use Rattle.ua_command.specs.declared.show.Capture.{Capture}
 use Rattle.ua_command.specs.declared.command.Command.{Command}
-use Rattle.ua_command.specs.declared.command.Command.TheVariants.{Answer, Value, Show, Serve, Ask}
+use Rattle.ua_command.specs.declared.command.Command.TheVariants.{Answer, Value, Show, Serve, ServeMany, Ask}
 use Rattle.ua_command.specs.declared.stop.Stop.{Stop}
 use Rattle.ua_command.specs.declared.stop.Stop.TheVariants.{Words, Settings, Line, Reverse, File, Link, NoMemory}
 
@@ -45,10 +47,19 @@ pub serve_done : (words : List Text) (source : Source) (address : String Global)
 serve_done words source address connections reverse s (Ok status) asked h = inl (Serve source address connections reverse, asked, h, tt)
 serve_done words source address connections reverse s (Err stop) asked h = h
 
-pub ask_done : (words : List Text) (question : Question) (address : String Global) (url : Option (String Global)) (s : Streams) (r : Result ℕ Stop) → AsksFor words (Ask question address url)
+pub many_done : (words : List Text) (source : Source) (address : String Global) (connections at_once patience : ℕ) (s : Streams) (r : Result ℕ Stop) → AsksFor words (ServeMany source address connections at_once patience)
+    → IfOk r (Serves false source) → IfOk r (IsDone words s)
+many_done words source address connections at_once patience s (Ok status) asked h = inl (ServeMany source address connections at_once patience, asked, h, tt)
+many_done words source address connections at_once patience s (Err stop) asked h = h
+
+pub ask_done : (words : List Text) (question : Question) (address : String Global) (url : Option (String Global)) (seconds : ℕ) (s : Streams) (r : Result ℕ Stop) → AsksFor words (Ask question address url seconds)
     → IfOk r IsAskStatus → IfOk r (IsDone words s)
-ask_done words question address url s (Ok status) asked h = inl (Ask question address url, asked, h, tt)
-ask_done words question address url s (Err stop) asked h = h
+ask_done words question address url seconds s (Ok status) asked h = inl (Ask question address url seconds, asked, h, tt)
+ask_done words question address url seconds s (Err stop) asked h = h
+
+-- an answer reads its input
+pub answer_reads : (words : List Text) (source : Source) (reverse : Bool) (old new : Option (List ℕ)) → AsksFor words (Answer source reverse) → LeavesInput words old new
+answer_reads words source reverse old new asked = inr (Answer source reverse, asked, tt)
 
 -- ---- stopped
 
@@ -78,32 +89,47 @@ pub file_stopped : (words : List Text) (c : Command) (left : Option (List ℕ)) 
 file_stopped words c left (Ok status) asked h = h
 file_stopped words c left (Err stop) asked h = file_stop words c left stop asked h
 
-serve_stop : (words : List Text) (source : Source) (address : String Global) (connections : ℕ) (reverse : Bool) (left : Option (List ℕ)) (stop : Stop) → AsksFor words (Serve source address connections reverse) → IsServeStop source stop → IsStop words left stop
-serve_stop words source address connections reverse left (Words text) asked h = absurd h
-serve_stop words source address connections reverse left (Settings fault) asked h = (Serve source address connections reverse, asked, h)
-serve_stop words source address connections reverse left (Line number) asked h = absurd h
-serve_stop words source address connections reverse left (Reverse fault) asked h = absurd h
-serve_stop words source address connections reverse left File asked h = inl (Serve source address connections reverse, asked)
-serve_stop words source address connections reverse left Link asked h = (Serve source address connections reverse, asked, tt)
-serve_stop words source address connections reverse left NoMemory asked h = tt
+serve_stop : (words : List Text) (c : Command) (source : Source) (left : Option (List ℕ)) (stop : Stop) → AsksFor words c → IsOverLinks c → ((fault : SettingsFault) → RefusesSource source fault → RefusesSettingsOf c fault)
+    → IsServeStop source stop → IsStop words left stop
+serve_stop words c source left (Words text) asked links settings h = absurd h
+serve_stop words c source left (Settings fault) asked links settings h = (c, asked, settings fault h)
+serve_stop words c source left (Line number) asked links settings h = absurd h
+serve_stop words c source left (Reverse fault) asked links settings h = absurd h
+serve_stop words c source left File asked links settings h = inl (c, asked)
+serve_stop words c source left Link asked links settings h = (c, asked, links)
+serve_stop words c source left NoMemory asked links settings h = tt
 
 pub serve_stopped : (words : List Text) (source : Source) (address : String Global) (connections : ℕ) (reverse : Bool) (left : Option (List ℕ)) (r : Result ℕ Stop) → AsksFor words (Serve source address connections reverse)
     → IfErr r (IsServeStop source) → IfErr r (IsStop words left)
 serve_stopped words source address connections reverse left (Ok status) asked h = h
-serve_stopped words source address connections reverse left (Err stop) asked h = serve_stop words source address connections reverse left stop asked h
+serve_stopped words source address connections reverse left (Err stop) asked h = serve_stop words (Serve source address connections reverse) source left stop asked tt (λ fault refused. refused) h
 
-pub link_stopped : (words : List Text) (question : Question) (address : String Global) (url : Option (String Global)) (left : Option (List ℕ)) (r : Result ℕ Stop) → AsksFor words (Ask question address url)
-    → IfErr r (λ stop. stop ≡ Link) → IfErr r (IsStop words left)
-link_stopped words question address url left (Ok status) asked h = h
-link_stopped words question address url left (Err stop) asked h = subst (IsStop words left) (sym h) (Ask question address url, asked, tt)
+pub many_stopped : (words : List Text) (source : Source) (address : String Global) (connections at_once patience : ℕ) (left : Option (List ℕ)) (r : Result ℕ Stop) → AsksFor words (ServeMany source address connections at_once patience)
+    → IfErr r (IsServeStop source) → IfErr r (IsStop words left)
+many_stopped words source address connections at_once patience left (Ok status) asked h = h
+many_stopped words source address connections at_once patience left (Err stop) asked h = serve_stop words (ServeMany source address connections at_once patience) source left stop asked tt (λ fault refused. refused) h
+
+link_stop : (words : List Text) (c : Command) (left : Option (List ℕ)) (stop : Stop) → AsksFor words c → IsOverLinks c → IsReachStop stop → IsStop words left stop
+link_stop words c left (Words text) asked over h = absurd h
+link_stop words c left (Settings fault) asked over h = absurd h
+link_stop words c left (Line number) asked over h = absurd h
+link_stop words c left (Reverse fault) asked over h = absurd h
+link_stop words c left File asked over h = absurd h
+link_stop words c left Link asked over h = (c, asked, over)
+link_stop words c left NoMemory asked over h = tt
+
+pub link_stopped : (words : List Text) (question : Question) (address : String Global) (url : Option (String Global)) (seconds : ℕ) (left : Option (List ℕ)) (r : Result ℕ Stop) → AsksFor words (Ask question address url seconds)
+    → IfErr r IsReachStop → IfErr r (IsStop words left)
+link_stopped words question address url seconds left (Ok status) asked h = h
+link_stopped words question address url seconds left (Err stop) asked h = link_stop words (Ask question address url seconds) left stop asked tt h
 
 -- ---- what a question is called by
 
-short : (reverse : Bool) (text : Option Text) (url : Option (String Global)) (lent : Option (Bor (List ℕ))) → IsUrlOf reverse text url → option_map (λ u. u.now) lent ≡ option_map string_bytes url → IfSome lent (λ u. length u.now ≤ 4095)
-short reverse text url None h e = tt
-short reverse text None (Some u) h e = absurd cc
-short reverse text (Some s) (Some u) h e = subst (λ (t : List ℕ). length t ≤ 4095) (sym (same_Some _ _ e)) h.2
+short : (reverse : Bool) (text address : Option Text) (url : Option (String Global)) (lent : Option (Bor (List ℕ))) → IsUrlOf reverse text address url → option_map (λ u. u.now) lent ≡ option_map string_bytes url → IfSome lent (λ u. length u.now ≤ 4095)
+short reverse text address url None h e = tt
+short reverse text address None (Some u) h e = absurd cc
+short reverse text address (Some s) (Some u) h e = subst (λ (t : List ℕ). length t ≤ 4095) (sym (same_Some _ _ e)) h.2
 
 -- a url that the words name is short, as it is lent too
-pub asked_short : (words : List Text) (question : Question) (address : String Global) (url : Option (String Global)) (lent : Option (Bor (List ℕ))) → AsksFor words (Ask question address url) → option_map (λ u. u.now) lent ≡ option_map string_bytes url → IfSome lent (λ u. length u.now ≤ 4095)
-asked_short words question address url lent asked e = short _ _ url lent asked.2.named.2.2 e
+pub asked_short : (words : List Text) (question : Question) (address : String Global) (url : Option (String Global)) (seconds : ℕ) (lent : Option (Bor (List ℕ))) → AsksFor words (Ask question address url seconds) → option_map (λ u. u.now) lent ≡ option_map string_bytes url → IfSome lent (λ u. length u.now ≤ 4095)
+asked_short words question address url seconds lent asked e = short _ _ _ url lent asked.2.named.2.2 e

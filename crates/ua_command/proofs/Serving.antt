@@ -1,5 +1,5 @@
 -- How the command `serve` is done or stopped, from its settings and from what was served by them.
-use Rattle.std.proofs.Common.{◌≡◌, inl, inr, ℕ, Bool, false, true≢false, Result, Ok, Err, IfOk, IfErr, subst, sym}
+use Rattle.std.proofs.Common.{◌≡◌, ◌∙◌, ◌⊎◌, ap, inl, inr, ℕ, Bool, false, true≢false, Result, Ok, Err, IfOk, IfErr, subst, sym}
 use Rattle.ua_disco.specs.Configuration.{Configuration}
 use Rattle.ua_command.specs.Serve.{IsServeStatus, IsServingStop, IsServedStatus, IsServeStop, Serves}
 use Rattle.ua_command.specs.Settings.{IsSettings}
@@ -18,6 +18,11 @@ stopped_so reverse settings (Reverse fault) status h e = inr (e, (fault, h))
 stopped_so reverse settings File status h e = inl (inr (inl e))
 stopped_so reverse settings Link status h e = inl (inr (inl e))
 stopped_so reverse settings NoMemory status h e = absurd h
+
+-- of several connections at once
+pub stopped_many : (stop : Stop) (status : ℕ) → (stop ≡ File) ⊎ (stop ≡ Link) → status ≡ status_of stop → IsServeStatus status
+stopped_many stop status (inl file) e = inr (inl (e ∙ ap status_of file))
+stopped_many stop status (inr link) e = inr (inl (e ∙ ap status_of link))
 
 -- of connections that this end does not open
 pub accepted_so : (settings : Configuration) (status : ℕ) → IsServedStatus false settings status → IsServeStatus status

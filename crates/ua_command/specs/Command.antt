@@ -1,6 +1,7 @@
 -- The command line as clap reads it.
-use Rattle.std.specs.Prelude.{◌≡◌, ◌⊎◌, ◌≤◌, ℕ, Bool, String, codes, length, map, string_bytes, true, false, Some, None, Option, List, [], ◌∷◌, Ok}
+use Rattle.std.specs.Prelude.{if◌then◌else◌, ◌≡◌, ◌⊎◌, ◌≤◌, ◌||◌, ℕ, Bool, String, codes, length, map, string_bytes, true, false, Some, None, Option, List, [], ◌∷◌, Ok}
 use Rattle.std.specs.Global.{Global}
+use Rattle.std.specs.Option.{is_some}
 use Rattle.std.specs.Str.{bytes_eq}
 use Rattle.std.specs.Str.Parse.{IsNumeral, digits_value, without_leading_plus}
 use Rattle.clap.specs.Words.{App, Rule, Row, Text, IsAmong, fault_of, first_of, new_app, new_rule, subcommand_of, with_rule, with_subcommand}
@@ -9,12 +10,13 @@ use Rattle.clap.specs.declared.builder.value_parser.ValueParser.TheVariants.{Nam
 use Rattle.clap.specs.declared.error.kind.ErrorKind.{ErrorKind}
 use Rattle.clap.specs.declared.error.kind.ErrorKind.TheVariants.{OutOfMemory, DisplayHelp, DisplayVersion}
 use Rattle.hex.specs.Hex.{decode_of}
+use Rattle.ua_address.specs.Address.{address_of, is_url}
 use Rattle.ua_variant.specs.KindNames.{kind_name}
 use Rattle.ua_command.specs.TypeNames.{Lent, AreTypeNames}
 use Rattle.ua_command.specs.declared.ask.Question.{Question}
 use Rattle.ua_command.specs.declared.ask.Question.TheVariants.{Find, Endpoints}
 use Rattle.ua_command.specs.declared.command.Command.{Command}
-use Rattle.ua_command.specs.declared.command.Command.TheVariants.{Answer, Value, Show, Serve, Ask}
+use Rattle.ua_command.specs.declared.command.Command.TheVariants.{Answer, Value, Show, Serve, ServeMany, Ask}
 use Rattle.ua_command.specs.declared.command.WordsFault.{WordsFault}
 use Rattle.ua_command.specs.declared.command.WordsFault.TheVariants.{Shown, Refused, NoMemory}
 use Rattle.ua_command.specs.declared.command.WordFault.{WordFault}
@@ -39,9 +41,13 @@ named_rule id names = record (word_rule id) { parser = Some (Names names) }
 abbrev pub type_rule : Lent → Rule
 type_rule names = named_rule (codes "type") names
 
--- a word behind `--connections` that has to be there, and a number from 1 to 65535
+-- a word behind `--connections` that has to be there, and a number from 1 to 4294967295
 abbrev pub count_rule : Rule
-count_rule = record (word_rule (codes "connections")) { long = Some (codes "connections"); parser = Some (Unsigned 1 65535) }
+count_rule = record (word_rule (codes "connections")) { long = Some (codes "connections"); parser = Some (Unsigned 1 4294967295) }
+
+-- a word behind `--` and this name that may be there, and is a number from 1 on
+abbrev pub number_rule : Text → ℕ → Rule
+number_rule id most = record (optional_rule id) { long = Some id; parser = Some (Unsigned 1 most) }
 
 -- the flag `--reverse`, by which the server opens the connection
 abbrev pub reverse_rule : Rule
@@ -73,10 +79,10 @@ abbrev pub show_app : App
 show_app = with_rule (new_app (codes "show")) (word_rule (codes "file"))
 
 abbrev pub serve_app : App
-serve_app = with_rule (with_rule (with_rule (with_rule (new_app (codes "serve")) (word_rule (codes "settings"))) (word_rule (codes "address"))) count_rule) reverse_rule
+serve_app = with_rule (with_rule (with_rule (with_rule (with_rule (with_rule (new_app (codes "serve")) (word_rule (codes "settings"))) (word_rule (codes "address"))) count_rule) (number_rule (codes "at-once") 65535)) (number_rule (codes "patience") 86400)) reverse_rule
 
 abbrev pub ask_app : Lent → App
-ask_app names = with_rule (with_rule (with_rule (with_rule (new_app (codes "ask")) (named_rule (codes "question") names)) (word_rule (codes "address"))) (optional_rule (codes "url"))) reverse_rule
+ask_app names = with_rule (with_rule (with_rule (with_rule (with_rule (new_app (codes "ask")) (named_rule (codes "question") names)) (word_rule (codes "address"))) (optional_rule (codes "url"))) reverse_rule) (number_rule (codes "timeout") 86400)
 
 abbrev pub plain : App
 plain = let a = new_app (codes "uadisc") in record a { top = record (a.top) { no_binary_name = true; subcommand_required = true; has_version = true } }
@@ -115,26 +121,49 @@ abbrev pub IsCaptureOf : Option Text → Capture → Type 0
 IsCaptureOf text captures.Input = text ≡ Some (codes "-")
 IsCaptureOf text (captures.File path) = (text ≡ Some (string_bytes path)) × (string_bytes path ≡ codes "-" → ⊥)
 
--- the text is this number from 1 to 65535, in decimal
-pub record IsCount (text : List ℕ) (n : ℕ) : Type 0 where
+-- the text is this number from 1 to a limit, in decimal
+pub record IsCount (limit : ℕ) (text : List ℕ) (n : ℕ) : Type 0 where
   pub numeral : IsNumeral 10 (without_leading_plus text)
   pub number : digits_value 10 (without_leading_plus text) ≡ n
   pub least : 1 ≤ n
-  pub most : n ≤ 65535
+  pub most : n ≤ limit
 
-abbrev pub IsCountOf : Option Text → ℕ → Type 0
-IsCountOf None n = ⊥
-IsCountOf (Some text) n = IsCount text n
+abbrev pub IsCountOf : ℕ → Option Text → ℕ → Type 0
+IsCountOf limit None n = ⊥
+IsCountOf limit (Some text) n = IsCount limit text n
+
+-- the same, or the usual number where there is no text
+abbrev pub IsCountOr : ℕ → ℕ → Option Text → ℕ → Type 0
+IsCountOr usual limit None n = n ≡ usual
+IsCountOr usual limit (Some text) n = IsCount limit text n
 
 -- The text of a flag is `true` where it was given.
 abbrev pub is_given : Option Text → Bool
 is_given None = false
 is_given (Some text) = bytes_eq text (codes "true")
 
+-- the text of the address, which may be a url that names it
+abbrev pub IsAddressOf : Option Text → String Global → Type 0
+IsAddressOf None address = ⊥
+IsAddressOf (Some text) address = string_bytes address ≡ address_of text
+
+-- The url that the words give: the word for it, or without one the address, where that is a url.
+abbrev pub url_of_address : Option Text → Option Text
+url_of_address None = None
+url_of_address (Some address) = if is_url address then Some address else None
+
+abbrev pub url_named : Option Text → Option Text → Option Text
+url_named None address = url_of_address address
+url_named (Some url) address = Some url
+
+-- the text is there, has at most 4095 bytes, and is this url
+abbrev pub IsShortUrl : Option Text → String Global → Type 0
+IsShortUrl text url = (text ≡ Some (string_bytes url)) × (length (string_bytes url) ≤ 4095)
+
 -- A server is called by a url of at most 4095 bytes, and by none exactly where it opens the connection.
-abbrev pub IsUrlOf : Bool → Option Text → Option (String Global) → Type 0
-IsUrlOf reverse text None = (reverse ≡ true) × (text ≡ None)
-IsUrlOf reverse text (Some url) = (reverse ≡ false) × (text ≡ Some (string_bytes url)) × (length (string_bytes url) ≤ 4095)
+abbrev pub IsUrlOf : Bool → Option Text → Option Text → Option (String Global) → Type 0
+IsUrlOf reverse text address None = (reverse ≡ true) × (text ≡ None)
+IsUrlOf reverse text address (Some url) = (reverse ≡ false) × (url_named text address ≡ Some (string_bytes url)) × (length (string_bytes url) ≤ 4095)
 
 -- the word of a command
 abbrev pub word_of : Command → Text
@@ -142,15 +171,21 @@ word_of (Answer source reverse) = codes "answer"
 word_of (Value kind bytes) = codes "value"
 word_of (Show capture) = codes "show"
 word_of (Serve source address connections reverse) = codes "serve"
-word_of (Ask question address url) = codes "ask"
+word_of (ServeMany source address connections at_once patience) = codes "serve"
+word_of (Ask question address url seconds) = codes "ask"
+
+-- Several connections are served at once where one of their words is there.
+abbrev pub are_many : Words → Bool
+are_many word = is_some (word (codes "at-once")) || is_some (word (codes "patience"))
 
 -- the values of a command are those among these words
 abbrev pub HasValues : Words → Command → Type 0
 HasValues word (Answer source reverse) = IsSourceOf (word (codes "settings")) source × (reverse ≡ is_given (word (codes "reverse")))
 HasValues word (Value kind bytes) = (word (codes "type") ≡ Some (kind_name kind)) × IsHexOf bytes.items (word (codes "hex"))
 HasValues word (Show capture) = IsCaptureOf (word (codes "file")) capture
-HasValues word (Serve source address connections reverse) = IsSourceOf (word (codes "settings")) source × (word (codes "address") ≡ Some (string_bytes address)) × IsCountOf (word (codes "connections")) connections × (reverse ≡ is_given (word (codes "reverse")))
-HasValues word (Ask question address url) = (word (codes "question") ≡ Some (name_of_question question)) × (word (codes "address") ≡ Some (string_bytes address)) × IsUrlOf (is_given (word (codes "reverse"))) (word (codes "url")) url
+HasValues word (Serve source address connections reverse) = IsSourceOf (word (codes "settings")) source × (word (codes "address") ≡ Some (string_bytes address)) × IsCountOf 65535 (word (codes "connections")) connections × (reverse ≡ is_given (word (codes "reverse"))) × (are_many word ≡ false)
+HasValues word (ServeMany source address connections at_once patience) = IsSourceOf (word (codes "settings")) source × (word (codes "address") ≡ Some (string_bytes address)) × IsCountOf 4294967295 (word (codes "connections")) connections × IsCountOr 1 65535 (word (codes "at-once")) at_once × IsCountOr 30 86400 (word (codes "patience")) patience × (is_given (word (codes "reverse")) ≡ false) × (are_many word ≡ true)
+HasValues word (Ask question address url seconds) = (word (codes "question") ≡ Some (name_of_question question)) × IsAddressOf (word (codes "address")) address × IsUrlOf (is_given (word (codes "reverse"))) (word (codes "url")) (word (codes "address")) url × IsCountOr 30 86400 (word (codes "timeout")) seconds
 
 -- the command has this word, and its values are those among these words
 abbrev pub IsNamed : Text → Words → Command → Type 0

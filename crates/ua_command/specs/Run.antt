@@ -1,5 +1,5 @@
 -- What a whole run of the command does.
-use Rattle.std.specs.Prelude.{◌≡◌, ◌⊎◌, ◌≤◌, ℕ, Bool, List, Option}
+use Rattle.std.specs.Prelude.{◌≡◌, ◌⊎◌, ◌≤◌, ℕ, Bool, false, List, Option}
 use Rattle.std.specs.Io.KnownBytes.{Appends}
 use Rattle.clap.specs.Words.{Text}
 use Rattle.ua_command.specs.Answer.{AnswersBy}
@@ -11,7 +11,7 @@ use Rattle.ua_command.specs.Settings.{RefusesSource}
 use Rattle.ua_command.specs.Show.{ShowsCapture}
 use Rattle.ua_command.specs.Stop.{status_of, IsAnswerStop, IsQuiet}
 use Rattle.ua_command.specs.declared.command.Command.{Command}
-use Rattle.ua_command.specs.declared.command.Command.TheVariants.{Answer, Value, Show, Serve, Ask}
+use Rattle.ua_command.specs.declared.command.Command.TheVariants.{Answer, Value, Show, Serve, ServeMany, Ask}
 use Rattle.ua_command.specs.declared.stop.Stop.{Stop}
 use Rattle.ua_disco.specs.declared.fault.SettingsFault.{SettingsFault}
 use Rattle.ua_command.specs.declared.settings.Source.{Source}
@@ -31,7 +31,8 @@ Does (Answer source reverse) left old new status = AnswersBy reverse source left
 Does (Value kind bytes) left old new status = Shows (shape_of kind) bytes.items old new status
 Does (Show capture) left old new status = ShowsCapture capture left old new status
 Does (Serve source address connections reverse) left old new status = Serves reverse source status
-Does (Ask question address url) left old new status = IsAskStatus status
+Does (ServeMany source address connections at_once patience) left old new status = Serves false source status
+Does (Ask question address url seconds) left old new status = IsAskStatus status
 
 -- A command that is done tells nothing but where it is one over links, which tells where it listens, and how a link failed.
 abbrev pub TellsOf : Command → Option (List ℕ) → Option (List ℕ) → Type 0
@@ -39,7 +40,8 @@ TellsOf (Answer source reverse) old new = new ≡ old
 TellsOf (Value kind bytes) old new = new ≡ old
 TellsOf (Show capture) old new = new ≡ old
 TellsOf (Serve source address connections reverse) old new = Unit {0}
-TellsOf (Ask question address url) old new = Unit {0}
+TellsOf (ServeMany source address connections at_once patience) old new = Unit {0}
+TellsOf (Ask question address url seconds) old new = Unit {0}
 
 -- what a run has to do with: what the reader has left, and what the writers of what is printed and of what is told held before and hold then
 pub record Streams : Type 0 where
@@ -70,7 +72,8 @@ RefusesSettingsOf (Answer source reverse) fault = RefusesSource source fault
 RefusesSettingsOf (Value kind bytes) fault = ⊥
 RefusesSettingsOf (Show capture) fault = ⊥
 RefusesSettingsOf (Serve source address connections reverse) fault = RefusesSource source fault
-RefusesSettingsOf (Ask question address url) fault = ⊥
+RefusesSettingsOf (ServeMany source address connections at_once patience) fault = RefusesSource source fault
+RefusesSettingsOf (Ask question address url seconds) fault = ⊥
 
 -- the command is one over links
 abbrev pub IsOverLinks : Command → Type 0
@@ -78,7 +81,8 @@ IsOverLinks (Answer source reverse) = ⊥
 IsOverLinks (Value kind bytes) = ⊥
 IsOverLinks (Show capture) = ⊥
 IsOverLinks (Serve source address connections reverse) = Unit {0}
-IsOverLinks (Ask question address url) = Unit {0}
+IsOverLinks (ServeMany source address connections at_once patience) = Unit {0}
+IsOverLinks (Ask question address url seconds) = Unit {0}
 
 -- the command reads its input
 abbrev pub ReadsInput : Command → Type 0
@@ -87,7 +91,8 @@ ReadsInput (Value kind bytes) = ⊥
 ReadsInput (Show captures.Input) = Unit {0}
 ReadsInput (Show (captures.File path)) = ⊥
 ReadsInput (Serve source address connections reverse) = ⊥
-ReadsInput (Ask question address url) = ⊥
+ReadsInput (ServeMany source address connections at_once patience) = ⊥
+ReadsInput (Ask question address url seconds) = ⊥
 
 -- the input stays as it was, or the words ask for a command that reads it
 abbrev pub LeavesInput : List Text → Option (List ℕ) → Option (List ℕ) → Type 0

@@ -1,7 +1,7 @@
 //! The command `ask`: asks a server over TCP for the servers that it knows, or for its endpoints.
 
 ghost use Rattle.std.specs.Prelude.{◌≡◌, ◌⊎◌, ◌<◌, ◌≤◌, ◌-◌, ◌^◌, length, None, Some, IfOk, IfErr, IfSome, MatchOption};
-ghost use Rattle.ua_command.specs.Ask.{IsAskStatus, IsTalkStop};
+ghost use Rattle.ua_command.specs.Ask.{IsAskStatus, IsReachStop, IsTalkStop};
 ghost use Rattle.ua_command.specs.Command.{AreQuestionNames, name_of_question};
 ghost use Rattle.ua_command.specs.declared.ask.Question.{Question};
 
@@ -12,15 +12,18 @@ use crate::ask::lines::{Outcome, lines_of};
 use crate::ask::reaching::{ask_at, ask_caller};
 use crate::run::told;
 use crate::stop::{Stop, print};
+use crate::why::Why;
 use std::alloc::{AllocError, Global};
 use std::io::Write;
-use std::net::{Net, TcpListener, TcpStream};
+use std::net::Net;
 use std::rt::Clock as HostClock;
+use std::time::Duration;
 use ua_conn::{Answer, AnswerResult, AskFault, Client, ClientConfig, ClientFault};
 use ua_link::{ClientTurn, Clock, Link, pump_client, send_output};
 use ua_service::{FindServersRequest, GetEndpointsRequest, Request, request_header};
+use ua_socket::{Deadline, Listener, connect};
 use ua_value::plumbing::let_go;
-use ua_value::{Array, DateTime, NoMemory, UaString};
+use ua_value::{Array, DateTime, NoMemory, StatusCode, UaString};
 
 /// What can be asked for.
 #[derive(Clone, Copy, Debug, PartialEq, Eq)]
@@ -351,8 +354,36 @@ pub fn ask_over<L: Link, C: Clock, O: Write, E: Write>(
     requires countable { L.fault_count link.old < 2 ^ 64 - 1 }
     ensures { IsAskStatus result }
 {
+    let why = &mut Why::Unknown;
+    ask_and_say(alloc, link, clock, question, url, output, errors, why)
+}
+
+/// What is known of a status that came in the place of an answer.
+fn why_of(outcome: &Outcome) -> Why {
+    match outcome.status() {
+        Some(status) => Why::Status(StatusCode(status)),
+        None => Why::Unknown,
+    }
+}
+
+/// Asks a server over a link in the same way, and says in `why` which status came in the place of an answer.
+fn ask_and_say<L: Link, C: Clock, O: Write, E: Write>(
+    alloc: Global,
+    link: &mut L,
+    clock: &mut C,
+    question: Question,
+    url: Option<&str>,
+    output: &mut O,
+    errors: &mut E,
+    why: &mut Why,
+) -> u8
+    requires url { IfSome url (λ url. length url.now ≤ 4095) }
+    requires countable { L.fault_count link.old < 2 ^ 64 - 1 }
+    ensures { IsAskStatus result }
+{
     match talk_anew(alloc, link, clock, question, url) {
         Ok(outcome) => {
+            *why = why_of(&outcome);
             let status = status_of(alloc, &outcome, output, errors);
             let_go(outcome);
             status
@@ -362,16 +393,20 @@ pub fn ask_over<L: Link, C: Clock, O: Write, E: Write>(
 }
 
 /// Connects to the address, and asks the server there. Without a url it listens at the address, tells on `errors` which
-/// one it is, and asks the server that comes there first.
+/// one it is, and asks the server that comes there first. All of that is given so many seconds, but for looking up the
+/// name of a host; once they are over, the link fails.
 ///
-/// `Link` says that nobody listens at the address, or that nothing can, and nothing is printed then.
+/// `Link` says that nobody listens at the address, or that nothing can, and `NoMemory` that a growth was refused; nothing
+/// is printed then. What is known of a link that failed stands in `why`.
 pub fn ask<R, O, E>(
     rt: &R,
     question: Question,
     address: &str,
     url: Option<&str>,
+    seconds: u32,
     output: &mut O,
     errors: &mut E,
+    why: &mut Why,
 ) -> Result<u8, Stop>
 where
     R: Net + HostClock + AllocGlobal,
@@ -379,18 +414,23 @@ where
     E: Write,
     requires { IfSome url (λ url. length url.now ≤ 4095) }
     ensures ok { IfOk result IsAskStatus }
-    ensures err { IfErr result (λ stop. stop ≡ Stop.Link) }
+    ensures err { IfErr result IsReachStop }
     ensures quiet { IfErr result (λ _. O.contents output.new ≡ O.contents output.old) }
     ensures untold { IfErr result (λ _. E.contents errors.new ≡ E.contents errors.old) }
 {
+    let mut deadline = Deadline::new(rt, Duration::from_secs(u64::from(seconds)));
     match url {
         Some(url) => {
-            let stream = TcpStream::connect(rt, address);
-            ask_at(rt, stream, question, url, output, errors)
+            let socket = connect(rt, rt.alloc(), address, &mut deadline);
+            ask_at(
+                rt, socket, deadline, seconds, question, url, output, errors, why,
+            )
         }
         None => {
-            let listener = TcpListener::bind(rt, address);
-            ask_caller(rt, listener, question, output, errors)
+            let listener = Listener::bind(rt, rt.alloc(), address);
+            ask_caller(
+                rt, listener, deadline, seconds, question, output, errors, why,
+            )
         }
     }
 }

@@ -8,10 +8,12 @@ ghost use Rattle.ua_command.specs.Stop.{status_of, stop_text, IsQuiet};
 use crate::answer::answer;
 use crate::ask::ask;
 use crate::command::{Command, WordsFault, command_of};
+use crate::serve::many::{Crowd, serve_many};
 use crate::serve::serve;
 use crate::show::show;
 use crate::stop::{Stop, print};
 use crate::value::value;
+use crate::why::Why;
 use std::io;
 use std::io::{Read, Write};
 use std::net::Net;
@@ -33,9 +35,40 @@ where
         Runs (map (λ w. w.now) words.entry.now) streams result }
     ensures unread { LeavesInput (map (λ w. w.now) words.entry.now) (I.remaining input.old) (I.remaining input.new) }
 {
-    match done(rt, words, input, output, errors) {
+    run_and_say(rt, words, input, output, errors, &mut Why::Unknown)
+}
+
+/// Runs the command in the same way, and says in `why` what is known of a link or a file that failed.
+pub fn run_and_say<R, I, O, E>(
+    rt: &R,
+    words: &[&str],
+    input: &mut I,
+    output: &mut O,
+    errors: &mut E,
+    why: &mut Why,
+) -> u8
+where
+    R: Files + Net + Clock + AllocGlobal,
+    I: Read,
+    O: Write,
+    E: Write,
+    ensures runs { let streams : Streams = record { left = I.remaining input.old; printed = O.contents output.old; printed' = O.contents output.new; told = E.contents errors.old; told' = E.contents errors.new } in
+        Runs (map (λ w. w.now) words.entry.now) streams result }
+    ensures unread { LeavesInput (map (λ w. w.now) words.entry.now) (I.remaining input.old) (I.remaining input.new) }
+{
+    match done(rt, words, input, output, errors, why) {
         Ok(status) => status,
-        Err(stop) => told(&stop, errors),
+        Err(stop) => {
+            note(&stop, why);
+            told(&stop, errors)
+        }
+    }
+}
+
+/// Says in `why` that a file stopped the command, where one did.
+fn note(stop: &Stop, why: &mut Why) {
+    if let Stop::File = stop {
+        *why = Why::File;
     }
 }
 
@@ -70,6 +103,7 @@ fn done<R, I, O, E>(
     input: &mut I,
     output: &mut O,
     errors: &mut E,
+    why: &mut Why,
 ) -> Result<u8, Stop>
 where
     R: Files + Net + Clock + AllocGlobal,
@@ -105,18 +139,41 @@ where
             reverse,
             output,
             errors,
+            why,
+        ),
+        Command::ServeMany {
+            source,
+            address,
+            connections,
+            at_once,
+            patience,
+        } => serve_many(
+            rt,
+            &source,
+            address.as_str(),
+            Crowd {
+                connections,
+                at_once,
+                patience,
+            },
+            output,
+            errors,
+            why,
         ),
         Command::Ask {
             question,
             address,
             url,
+            seconds,
         } => ask(
             rt,
             question,
             address.as_str(),
             url.as_deref(),
+            seconds,
             output,
             errors,
+            why,
         ),
     }
 }

@@ -3,17 +3,21 @@
 ghost use Rattle.std.specs.Prelude.{◌≡◌, ◌<◌, true, IsOk, IfOk, IfErr, MatchResult};
 ghost use Rattle.ua_command.specs.Serve.{IsServeStatus, IsServedStatus, IsServeStop, IsServingStop, Serves};
 
+pub mod many;
+
 use crate::answer::Ending;
 use crate::run::told;
 use crate::settings::{Source, settings_in};
 use crate::stop::{Stop, print};
-use std::io;
+use crate::why::Why;
 use std::io::{Read, Write};
 use std::net::{Net, OpenListener, TcpListener, TcpStream};
 use std::rt::{Clock, Files};
+use std::{fmt, io};
 use ua_conn::{End, ReverseFault};
 use ua_disco::Settings;
 use ua_link::{MachineClock, Report, TcpLink, serve_connection, serve_connection_reverse};
+use ua_socket::Reason;
 use ua_value::plumbing::let_go;
 
 /// The most reads of one connection.
@@ -90,7 +94,19 @@ fn print_line<O: Write>(output: &mut O, served: Served) -> Result<(), Stop>
         read,
         written,
     } = served;
-    let ending = Ending(end);
+    print_ended(output, id, Ending(end), read, written)
+}
+
+/// Prints at once the line of a connection that ended so.
+fn print_ended<O: Write, D: fmt::Display + Drop>(
+    output: &mut O,
+    id: u32,
+    ending: D,
+    read: u64,
+    written: u128,
+) -> Result<(), Stop>
+    ensures { IfErr result (λ stop. stop ≡ Stop.File) }
+{
     if writeln!(
         output,
         "connection {id} {ending} read {read} written {written}"
@@ -296,6 +312,13 @@ where
     Ok(serve_on(rt, &listener, settings, connections, output, errors))
 }
 
+/// Says in `why` for which reason nothing listens, where nothing does.
+fn note<L>(listener: &io::Result<L>, why: &mut Why) {
+    if let Err(error) = listener {
+        *why = Why::NotListening(Reason::System(*error));
+    }
+}
+
 /// Serves so many connections by these settings, at the address or to it, and gives the exit status of `serve_on` or
 /// `serve_to`. `Link` says that nothing can listen at the address, and nothing else is said of that.
 fn serve_by<R, O, E>(
@@ -306,6 +329,7 @@ fn serve_by<R, O, E>(
     reverse: bool,
     output: &mut O,
     errors: &mut E,
+    why: &mut Why,
 ) -> Result<u8, Stop>
 where
     R: Net + Clock + AllocGlobal,
@@ -321,13 +345,15 @@ where
         return Ok(status);
     }
     let listener = TcpListener::bind(rt, address);
+    note(&listener, why);
     serve_at(rt, settings, listener, connections, output, errors)
 }
 
 /// Serves so many connections by the settings of the source, and gives the exit status. It listens at the address, and
 /// tells on `errors` which one it is, or where `reverse` says so makes the connections to the address.
 ///
-/// The settings are read first, and `Link` says that nothing can listen at the address. Nothing is printed before.
+/// The settings are read first, and `Link` says that nothing can listen at the address, and `why` for which reason.
+/// Nothing is printed before.
 pub fn serve<R, O, E>(
     rt: &R,
     source: &Source,
@@ -336,6 +362,7 @@ pub fn serve<R, O, E>(
     reverse: bool,
     output: &mut O,
     errors: &mut E,
+    why: &mut Why,
 ) -> Result<u8, Stop>
 where
     R: Files + Net + Clock + AllocGlobal,
@@ -347,7 +374,16 @@ where
     ensures untold { IfErr result (λ _. E.contents errors.new ≡ E.contents errors.old) }
 {
     let settings = settings_in(rt, source)?;
-    let served = serve_by(rt, &settings, address, connections, reverse, output, errors);
+    let served = serve_by(
+        rt,
+        &settings,
+        address,
+        connections,
+        reverse,
+        output,
+        errors,
+        why,
+    );
     let_go(settings);
     served
 }

@@ -3,3 +3,4 @@ pub mod ReadLemmas
 pub mod EndLemmas
 pub mod TurnLemmas
 pub mod ReportLemmas
+pub mod ConnectionLemmas

@@ -28,7 +28,7 @@ use Rattle.ua_link.proofs.TurnLemmas.{stop_is}
 
 -- ---- nothing was read
 
-nothing_said : (reverse : Bool) (site : Site) → reply_bytes reverse site (timed []) ≡ greeting reverse site.settings
+pub nothing_said : (reverse : Bool) (site : Site) → reply_bytes reverse site (timed []) ≡ greeting reverse site.settings
 unfolding fault_in_rest cuts_within rest_within
 nothing_said reverse site = append-nil (greeting reverse site.settings)
 
@@ -180,20 +180,20 @@ own_stop (at_fault f more status fault is) = subst (λ (r : Reading). IsOwn r.en
 own_stop (at_close f more fault close is) = subst (λ (r : Reading). IsOwn r.ending) (sym is) closed
 own_stop (at_rest is) = subst (λ (r : Reading). IsOwn r.ending) (sym is) (own_ended _ _)
 
-own : (site : Site) (ps : List Piece) → IsOwn (end_of site (timed ps))
+pub own : (site : Site) (ps : List Piece) → IsOwn (end_of site (timed ps))
 own site ps = own_stop (first site [] (frames_of (timed ps)) (plain (rest_of (timed ps)))).stops
 
-own_faults : {ending : End} (k : ℕ) → IsOwn ending → k ≡ faults_by ending k
+pub own_faults : {ending : End} (k : ℕ) → IsOwn ending → k ≡ faults_by ending k
 own_faults k closed = refl
 own_faults k (refused status) = refl
 own_faults k input_ended = refl
 own_faults k truncated = refl
 
-ending_is : (bytes : List ℕ) (ending e : End) → ending_at bytes ending ≡ Some e → e ≡ ending
+pub ending_is : (bytes : List ℕ) (ending e : End) → ending_at bytes ending ≡ Some e → e ≡ ending
 ending_is [] ending e h = cc
 ending_is (b ∷ bytes) ending e h = stop_is ending e h
 
-tells_own : {ending : End} (bytes : List ℕ) (n owed turns : ℕ) (cuts : List Cut) (after : Seen) → IsOwn ending → ending_at bytes ending ≡ Some ending → n ≡ owed →
+pub tells_own : {ending : End} (bytes : List ℕ) (n owed turns : ℕ) (cuts : List Cut) (after : Seen) → IsOwn ending → ending_at bytes ending ≡ Some ending → n ≡ owed →
     (bytes ≡ [] → LastEmpty cuts × IsAtEnd after.input) → Tells ending ending n owed turns cuts after
 tells_own bytes n owed turns cuts after closed h e last = (e, refl)
 tells_own bytes n owed turns cuts after (refused status) h e last = (e, refl)
@@ -202,10 +202,10 @@ tells_own (b ∷ bytes) n owed turns cuts after input_ended h e last = absurd (c
 tells_own [] n owed turns cuts after truncated h e last = (e, refl, (last refl).0, (last refl).1)
 tells_own (b ∷ bytes) n owed turns cuts after truncated h e last = absurd (cc)
 
-last_empty : (cuts : List Cut) (now : ℤ) (bytes : List ℕ) → NoneEmpty cuts → bytes ≡ [] → LastEmpty (cuts ++ (now, length bytes) ∷ [])
+pub last_empty : (cuts : List Cut) (now : ℤ) (bytes : List ℕ) → NoneEmpty cuts → bytes ≡ [] → LastEmpty (cuts ++ (now, length bytes) ∷ [])
 last_empty cuts now bytes h none = record { before = cuts; now = now; is = ap (λ (b : List ℕ). cuts ++ (now, length b) ∷ []) none; filled = h }
 
-goes_on_ending : (bytes : List ℕ) (ending : End) → ending_at bytes ending ≡ None → (0 < length bytes) × (stop ending ≡ None)
+pub goes_on_ending : (bytes : List ℕ) (ending : End) → ending_at bytes ending ≡ None → (0 < length bytes) × (stop ending ≡ None)
 goes_on_ending [] ending h = absurd (cc)
 goes_on_ending (b ∷ bytes) ending h = (omega arith, h)
 

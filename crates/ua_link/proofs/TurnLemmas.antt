@@ -12,7 +12,7 @@ use Rattle.ua_conn.specs.server.Feeding.{Shown, Feeds}
 use Rattle.ua_conn.specs.declared.outcome.End.{End}
 use Rattle.ua_conn.specs.declared.outcome.End.TheVariants.{Closed, InputEnded, Truncated, Refused, LinkFailed, TurnsSpent, NoMemory}
 use Rattle.ua_link.specs.Reads.{piece_at}
-use Rattle.ua_link.specs.Turns.{Seen, more, ending_at, SentWhole, SentPart, Heard, Unheard, HearsAll}
+use Rattle.ua_link.specs.Turns.{Seen, more, ending_at, ended_with, SentWhole, SentPart, Heard, Unheard, HearsAll}
 use Rattle.ua_link.specs.declared.turn.Turn.{Turn}
 use Rattle.ua_link.proofs.EndLemmas.{input_ends}
 
@@ -39,6 +39,14 @@ ends_so site ps now bytes out said asked came new end f goes none e =
     let is : end ≡ end_of site (timed (more ps now bytes)) =
     e ∙ ap (λ (v : Shown). ended None v.held.rest) (f.shows goes) ∙ input_ends site (more ps now bytes) (sym f.came_is ∙ goes) in
     ap Some is ∙ ap (λ b. ending_at b (end_of site (timed (more ps now bytes)))) (sym none)
+
+-- the end that a read brings to a server that heard it so
+pub ending_so : (site : Site) (ps : List Piece) (now : ℤ) (bytes out said : List ℕ) (asked : List Request) (came : Option End) (new : Shown) →
+    Feeds site ps (piece_at now bytes) out said asked came new → ended_with came bytes (ended None new.held.rest) ≡ ending_at bytes (end_of site (timed (more ps now bytes)))
+ending_so site ps now [] out said asked (Some came) new f = ap Some (stop_is _ came (sym f.came_is))
+ending_so site ps now (b ∷ bytes) out said asked (Some came) new f = f.came_is
+ending_so site ps now [] out said asked None new f = ends_so site ps now [] out said asked None new _ f refl refl refl
+ending_so site ps now (b ∷ bytes) out said asked None new f = f.came_is
 
 pub heard : (site : Site) (ps : List Piece) (now : ℤ) (bytes out said : List ℕ) (asked : List Request) (came : Option End) (new : Shown) (before after : Seen) (turn : Turn) →
     Feeds site ps (piece_at now bytes) out said asked came new → out ≡ [] → turn.requests.items ≡ asked → Appends before.output after.output (take turn.written said) →

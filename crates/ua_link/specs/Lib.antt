@@ -5,3 +5,5 @@ pub mod Reads
 pub mod Turns
 pub mod Reports
 pub mod ClientTurns
+pub mod ReadyLink
+pub mod Connections

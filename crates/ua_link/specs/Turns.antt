@@ -27,6 +27,12 @@ abbrev pub ending_at : List ℕ → End → Option End
 ending_at [] ending = Some ending
 ending_at (b ∷ bytes) ending = stop ending
 
+-- the same, of a server that came to an end by itself or not, where `ending` is that of the input
+abbrev pub ended_with : Option End → List ℕ → End → Option End
+ended_with (Some came) bytes ending = Some came
+ended_with None [] ending = Some ending
+ended_with None (b ∷ bytes) ending = None
+
 -- All that the server said is out.
 pub record SentWhole (said : List ℕ) (came : Option End) (before after : Seen) (turn : Turn) : Type 0 where
   pub written : turn.written ≡ length said

@@ -3,8 +3,11 @@
 
 mod client_turn;
 mod clock;
+mod connection;
 mod link;
 mod memory_link;
+mod ready_link;
+mod ready_stream;
 mod sending;
 mod serving;
 mod tcp_link;
@@ -12,8 +15,11 @@ mod turn;
 
 pub use client_turn::{ClientTurn, pump_client, send_output};
 pub use clock::{Clock, MachineClock};
+pub use connection::{Over, ReadyTurn, ServerConnection};
 pub use link::{Link, LinkFault};
 pub use memory_link::MemoryLink;
+pub use ready_link::ReadyLink;
+pub use ready_stream::ReadyStream;
 pub use serving::{Report, serve_connection, serve_connection_reverse};
 pub use tcp_link::TcpLink;
 pub use turn::{Turn, pump};

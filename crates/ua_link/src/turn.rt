@@ -1,10 +1,10 @@
 //! One turn of a server over a link.
 
-ghost use Rattle.std.specs.Prelude.{◌≡◌, ◌-◌, ◌<◌, ◌≤◌, ◌^◌, [], false, length, Some, IfSome};
-ghost use Rattle.std.specs.Prelude.{◌≡◌, ◌-◌, ◌<◌, ◌≤◌, ◌^◌, [], false, length, Some};
+ghost use Rattle.std.specs.Prelude.{◌≡◌, ◌-◌, ◌<◌, ◌≤◌, ◌^◌, [], false, length, None, Some, IfSome};
+ghost use Rattle.ua_conn.specs.server.Replies.{ended};
 ghost use Rattle.ua_link.specs.Clock.{Answered};
 ghost use Rattle.ua_link.specs.Reads.{moment_of_read};
-ghost use Rattle.ua_link.specs.Turns.{Seen, HearsAll, Turns};
+ghost use Rattle.ua_link.specs.Turns.{Seen, HearsAll, Turns, ended_with};
 
 use crate::clock::Clock;
 use crate::link::Link;
@@ -47,6 +47,16 @@ impl Turn {
     }
 }
 
+/// How the connection ends with a read of these bytes, to which the server came so: no byte is the end of the input.
+pub(crate) fn ending_after(server: &Server, bytes: &[u8], came: Option<End>) -> Option<End>
+    ensures { result ≡ ended_with came bytes.now (ended None server.now.held.rest) }
+{
+    if came.is_none() && bytes.is_empty() {
+        return Some(server.end_of_input());
+    }
+    came
+}
+
 /// Gives the bytes of a read to the server, and sends what it says to them.
 fn answer<L: Link>(alloc: Global, server: &mut Server, link: &mut L, now: i64, bytes: &[u8]) -> Turn
     requires going { server.old.failed ≡ false }
@@ -62,10 +72,8 @@ fn answer<L: Link>(alloc: Global, server: &mut Server, link: &mut L, now: i64, b
     let Ok(fed) = server.feed(now, bytes, &mut said) else {
         return Turn::ended(alloc, cut, End::NoMemory);
     };
-    let Fed { requests, mut end } = fed;
-    if bytes.is_empty() && end.is_none() {
-        end = Some(server.end_of_input());
-    }
+    let Fed { requests, end } = fed;
+    let end = ending_after(server, bytes, end);
     match send_all(link, &said) {
         Ok(()) => Turn {
             cut,

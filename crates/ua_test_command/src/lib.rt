@@ -5,6 +5,8 @@
 #![tactic(auto)]
 
 #[cfg(test)]
+mod addresses;
+#[cfg(test)]
 mod answering;
 #[cfg(test)]
 mod asking;
@@ -16,6 +18,10 @@ mod failures;
 mod hex_digits;
 #[cfg(test)]
 mod link_words;
+#[cfg(test)]
+mod many_loopback;
+#[cfg(test)]
+mod many_words;
 #[cfg(test)]
 mod memory;
 #[cfg(test)]
@@ -33,6 +39,8 @@ mod scripts;
 #[cfg(test)]
 mod serving;
 #[cfg(test)]
+mod serving_many;
+#[cfg(test)]
 mod showing;
 #[cfg(test)]
 mod streams;
@@ -42,6 +50,8 @@ mod turns;
 mod values;
 #[cfg(test)]
 mod vectors;
+#[cfg(test)]
+mod waiting;
 #[cfg(test)]
 mod whole_asks;
 #[cfg(test)]

@@ -6,7 +6,7 @@ use std::alloc::{AllocError, Global};
 use std::net::{SocketAddr, TcpListener};
 
 /// A url of so many bytes.
-fn url_of(alloc: Global, len: usize) -> Result<String, AllocError> {
+pub(crate) fn url_of(alloc: Global, len: usize) -> Result<String, AllocError> {
     let mut url = String::new(alloc);
     for _ in 0..len {
         url.push_str("u")?;
@@ -16,7 +16,7 @@ fn url_of(alloc: Global, len: usize) -> Result<String, AllocError> {
 
 #[test]
 fn refuses_words_of_links(rt: HostRuntime) {
-    for number in ["0", "65536", "x", "", "-1", "1.0"] {
+    for number in ["0", "4294967296", "x", "", "-1", "1.0"] {
         expect_refusal(
             &rt,
             &["serve", "default", "127.0.0.1:0", "--connections", number],
@@ -28,7 +28,7 @@ fn refuses_words_of_links(rt: HostRuntime) {
     expect_reason(
         &rt,
         &["serve", "default", "127.0.0.1:0", "--connections", "0"],
-        "0 is not in 1..=65535",
+        "0 is not in 1..=4294967295",
     );
     expect_reason(&rt, &["ask", "endpoint", "a", "u"], "'endpoints'");
 }

@@ -153,3 +153,11 @@ fn requests_of_every_size_are_cut(rt: HostRuntime) {
         assert!(rt; is_row(rt.alloc(), row), "{row:?}");
     }
 }
+
+/// Each byte of the largest request in a chunk of its own: 26,214,400 bytes.
+const BYTE_BY_BYTE: Row = (65535, 0, 1, 1_048_576, Some(1_048_576));
+
+#[test]
+fn the_largest_request_is_cut_byte_by_byte(rt: HostRuntime) {
+    assert!(rt; is_row(rt.alloc(), BYTE_BY_BYTE));
+}

@@ -25,7 +25,15 @@ mod client_channel;
 #[cfg(test)]
 mod clients;
 #[cfg(test)]
+mod connection_ends;
+#[cfg(test)]
+mod connection_schedules;
+#[cfg(test)]
+mod connections;
+#[cfg(test)]
 mod conversations;
+#[cfg(test)]
+mod crowds;
 #[cfg(test)]
 mod embedding;
 #[cfg(test)]
@@ -55,9 +63,13 @@ mod made_settings;
 #[cfg(test)]
 mod many;
 #[cfg(test)]
+mod many_connections;
+#[cfg(test)]
 mod memory;
 #[cfg(test)]
 mod moments;
+#[cfg(test)]
+mod ready_links;
 #[cfg(test)]
 mod refusals;
 #[cfg(test)]

@@ -10,7 +10,7 @@ use ua_disco::Settings;
 const COUNT: u32 = 2000;
 
 /// The frame, so many times behind the front, with sequence numbers and request ids from 2 on.
-fn numbered(alloc: Global, front: &[u8], frame: &[u8]) -> Result<Vec<u8>, AllocError> {
+pub(crate) fn numbered(alloc: Global, front: &[u8], frame: &[u8]) -> Result<Vec<u8>, AllocError> {
     let mut all = front.to_vec(alloc)?;
     let (Some(head), Some(body)) = (frame.get(..16), frame.get(24..)) else {
         return Ok(all);

@@ -10,7 +10,7 @@ use crate::vectors::{
 };
 use std::alloc::Global;
 use ua_conn::{ReverseFault, Setup, Step, Story, can_open, converse};
-use ua_disco::Settings;
+use ua_disco::{DEFAULT, Settings};
 use ua_value::UaString;
 
 /// What is told of these steps, where the server opens the connection; none where it can't, or memory ran out.
@@ -40,6 +40,27 @@ fn tells(alloc: Global, settings: &Settings, acts: &[Act], told: Told) -> Option
 }
 
 /// The same, with what each end says as frames, and whether the request is answered.
+fn frames_told(
+    alloc: Global,
+    settings: &Settings,
+    acts: &[Act],
+    up: &[&[u8]],
+    down: &[&[u8]],
+    answered: bool,
+) -> Option<bool> {
+    let answers: &[(u32, Option<u32>)] = if answered { &[(2, None)] } else { &[] };
+    let (Ok(up), Ok(down)) = (joined(alloc, up), joined(alloc, down)) else {
+        return None;
+    };
+    let told = Told {
+        up: up.as_slice(),
+        down: down.as_slice(),
+        answers,
+    };
+    tells(alloc, settings, acts, told)
+}
+
+/// The same where memory is there.
 fn tells_frames(
     alloc: Global,
     settings: &Settings,
@@ -48,16 +69,7 @@ fn tells_frames(
     down: &[&[u8]],
     answered: bool,
 ) -> bool {
-    let answers: &[(u32, Option<u32>)] = if answered { &[(2, None)] } else { &[] };
-    let (Ok(up), Ok(down)) = (joined(alloc, up), joined(alloc, down)) else {
-        return false;
-    };
-    let told = Told {
-        up: up.as_slice(),
-        down: down.as_slice(),
-        answers,
-    };
-    tells(alloc, settings, acts, told).unwrap_or(false)
+    frames_told(alloc, settings, acts, up, down, answered).unwrap_or(false)
 }
 
 /// The ReverseHello comes in two pieces: before the second one the client says nothing, whatever is delivered or told.
@@ -116,6 +128,19 @@ fn a_request_is_answered(alloc: Global, settings: &Settings) -> bool {
 #[test]
 fn a_server_and_the_client_that_it_calls_converse(rt: HostRuntime) {
     assert!(rt; by_default(rt.alloc(), a_request_is_answered));
+}
+
+/// Whether all is told, or `None` where memory ran out.
+fn converses(alloc: Global) -> Option<bool> {
+    let settings = Settings::from_toml(alloc, DEFAULT.as_bytes()).ok();
+    judged(settings, |settings| {
+        frames_told(alloc, settings, &BY_FRAMES, &SENT, &REPLIED, true)
+    })
+}
+
+#[test]
+fn a_server_and_the_client_that_it_calls_or_no_memory(rt: HostRuntime) {
+    assert!(rt; converses(rt.alloc()) != Some(false));
 }
 
 const NO_ENDPOINT: &str = "version = 1\n[application]\nuri = \"u\"\nnames = [{ text = \"n\" }]\n";

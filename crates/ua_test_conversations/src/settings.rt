@@ -3,12 +3,35 @@
 use std::alloc::{AllocError, Global};
 use ua_disco::{DEFAULT, Settings};
 
-/// Whether the first fault of the text is shown so; empty where there is none.
-fn has_fault(alloc: Global, text: &[u8], fault: &str) -> bool {
+/// Whether this is shown of the second application of a list where the fault is one of the only application; any other is
+/// shown as it is.
+fn is_of_second(shown: &[u8], fault: &[u8]) -> bool {
+    let (Some(kind), Some(key)) = (fault.get(..23), fault.get(23..)) else {
+        return shown == fault;
+    };
+    if !kind.ends_with(b"application.") {
+        return shown == fault;
+    }
+    match shown.strip_prefix(kind) {
+        Some(rest) => rest.strip_prefix(b"1.".as_slice()) == Some(key),
+        None => false,
+    }
+}
+
+fn is_shown(shown: &str, fault: &str, second: bool) -> bool {
+    if second {
+        is_of_second(shown.as_bytes(), fault.as_bytes())
+    } else {
+        shown == fault
+    }
+}
+
+/// Whether the first fault of the text is shown so, of the second application or as it is; empty where there is none.
+fn has_fault(alloc: Global, text: &[u8], fault: &str, second: bool) -> bool {
     match Settings::from_toml(alloc, text) {
         Ok(_) => fault.is_empty(),
         Err(found) => match found.to_string(alloc) {
-            Ok(shown) => shown.as_str() == fault,
+            Ok(shown) => is_shown(shown.as_str(), fault, second),
             Err(_) => false,
         },
     }
@@ -21,21 +44,39 @@ fn with_more(alloc: Global, front: &str, more: &str) -> Result<String, AllocErro
 }
 
 /// Whether the text behind the front has this first fault.
-fn is_refused(alloc: Global, front: &str, more: &str, fault: &str) -> bool {
+fn is_refused(alloc: Global, front: &str, more: &str, fault: &str, second: bool) -> bool {
     match with_more(alloc, front, more) {
-        Ok(text) => has_fault(alloc, text.as_str().as_bytes(), fault),
+        Ok(text) => has_fault(alloc, text.as_str().as_bytes(), fault, second),
         Err(_) => false,
     }
 }
 
-/// The first text of the rows that, behind the front, has another first fault.
-pub(crate) fn other<'a>(alloc: Global, front: &str, rows: &[(&'a str, &str)]) -> Option<&'a str> {
+fn other_of<'a>(
+    alloc: Global,
+    front: &str,
+    rows: &[(&'a str, &str)],
+    second: bool,
+) -> Option<&'a str> {
     for (more, fault) in rows {
-        if !is_refused(alloc, front, more, fault) {
+        if !is_refused(alloc, front, more, fault, second) {
             return Some(*more);
         }
     }
     None
+}
+
+/// The first text of the rows that, behind the front, has another first fault.
+pub(crate) fn other<'a>(alloc: Global, front: &str, rows: &[(&'a str, &str)]) -> Option<&'a str> {
+    other_of(alloc, front, rows, false)
+}
+
+/// The same behind a front that ends in a second application, where the rows say what is told of the only one.
+pub(crate) fn other_of_second<'a>(
+    alloc: Global,
+    front: &str,
+    rows: &[(&'a str, &str)],
+) -> Option<&'a str> {
+    other_of(alloc, front, rows, true)
 }
 
 const WHOLE: [(&str, &str); 24] = [
@@ -92,14 +133,14 @@ const SECOND_ENDPOINT: [(&str, &str); 1] = [(
 fn texts_are_refused_at_their_first_fault(rt: HostRuntime) {
     let alloc = rt.alloc();
     assert_eq!(rt; other(alloc, "", &WHOLE), None);
-    assert!(rt; has_fault(alloc, b"version = 1 # \xFF", "settings 1"));
+    assert!(rt; has_fault(alloc, b"version = 1 # \xFF", "settings 1", false));
     assert_eq!(rt; other(alloc, DEFAULT, &SECOND_ENDPOINT), None);
 }
 
 /// An application that is still without names.
 const APPLICATION: &str = "version = 1\n[application]\nuri = \"u\"\n";
 
-const NAMES: [(&str, &str); 13] = [
+pub(crate) const NAMES: [(&str, &str); 13] = [
     ("", "settings 2 application.names"),
     ("discovery_urls = 1", "settings 2 application.names"),
     ("type = 4", "settings 4 application.type"),
@@ -130,7 +171,7 @@ const NAMES: [(&str, &str); 13] = [
 /// The least settings, of which the application can go on.
 const LEAST: &str = "version = 1\n[application]\nuri = \"u\"\nnames = [{ text = \"n\" }]\n";
 
-const FIELDS: [(&str, &str); 14] = [
+pub(crate) const FIELDS: [(&str, &str); 14] = [
     ("type = 3", ""),
     ("type = 4", "settings 4 application.type"),
     ("type = -1", "settings 4 application.type"),
@@ -174,7 +215,7 @@ fn applications_are_refused_at_their_first_fault(rt: HostRuntime) {
 const ENDPOINT: &str =
     "version = 1\n[application]\nuri = \"u\"\nnames = [{ text = \"n\" }]\n[[endpoint]]\nurl = \"u\"\n";
 
-const ENDPOINTS: [(&str, &str); 22] = [
+pub(crate) const ENDPOINTS: [(&str, &str); 22] = [
     ("mode = 1", ""),
     ("mode = 3\nlevel = 255", ""),
     ("mode = 0", "settings 4 endpoint.0.mode"),
@@ -205,7 +246,7 @@ const ENDPOINTS: [(&str, &str); 22] = [
     ("tokens = [1]", "settings 3 endpoint.0.tokens.0"),
 ];
 
-const TOKENS: [(&str, &str); 8] = [
+pub(crate) const TOKENS: [(&str, &str); 8] = [
     ("tokens = [{}]", "settings 2 endpoint.0.tokens.0.id"),
     (
         "tokens = [{ id = \"i\" }, { id = \"i\", type = 4 }]",
@@ -231,7 +272,7 @@ const TOKENS: [(&str, &str); 8] = [
     ("tokens = [{ id = \"\", type = 3 }]", ""),
 ];
 
-const LIMITS: [(&str, &str); 17] = [
+pub(crate) const LIMITS: [(&str, &str); 17] = [
     ("", ""),
     ("receive = 8192\nsend = 8192", ""),
     ("receive = 1048576\nsend = 1048576", ""),
@@ -323,7 +364,7 @@ pub(crate) fn is_bounded(
     fault: &str,
 ) -> bool {
     match repeated(alloc, front, part, times, back) {
-        Ok(text) => has_fault(alloc, text.as_str().as_bytes(), fault),
+        Ok(text) => has_fault(alloc, text.as_str().as_bytes(), fault, false),
         Err(_) => false,
     }
 }

@@ -1,11 +1,12 @@
 //! The command `uadisc`.
 #![tactic(auto)]
 
+use std::io::IsTerminal;
 use std::process::ExitCode;
 use std::rt::Env;
 use std::{env, io};
-use ua_command::Stop;
-use ua_command::run::{run, told};
+use ua_command::run::{run_and_say, told};
+use ua_command::{Stop, Why, say_why};
 
 fn main(rt: HostRuntime) -> ExitCode {
     let status = match words(&rt) {
@@ -32,12 +33,22 @@ fn run_words(rt: &HostRuntime, words: &[String]) -> Result<u8, Stop> {
     for word in words {
         lent.push(word.as_str())?;
     }
-    let status = run(
+    let mut why = Why::Unknown;
+    let status = run_and_say(
         rt,
         lent.as_slice(),
         &mut rt.stdin(),
         &mut rt.stdout(),
         &mut rt.stderr(),
+        &mut why,
     );
+    if is_for_people(rt) {
+        say_why(rt, lent.as_slice(), &why, &mut rt.stderr());
+    }
     Ok(status)
+}
+
+/// Whether people read standard error: it is a terminal, or `UADISC_WORDS` says so.
+fn is_for_people(rt: &HostRuntime) -> bool {
+    rt.stderr().is_terminal() || env::var(rt, "UADISC_WORDS").is_ok()
 }

@@ -22,6 +22,17 @@ pub enum Outcome {
 }
 
 impl Outcome {
+    /// The status that came in the place of an answer, if one did.
+    pub fn status(&self) -> Option<u32> {
+        match self {
+            Outcome::Answered(Response::Fault(fault)) => Some(fault.header.service_result.0),
+            Outcome::Aborted(status) | Outcome::Said(status, _) | Outcome::Broken(status) => {
+                Some(*status)
+            }
+            _ => None,
+        }
+    }
+
     /// Whether the server answered that the service failed.
     pub fn is_fault(&self) -> bool {
         match self {

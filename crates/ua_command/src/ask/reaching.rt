@@ -1,39 +1,67 @@
 //! The question over a stream: of a connection that was made, or of one that comes to a listener.
 
 ghost use Rattle.std.specs.Prelude.{◌≡◌, ◌≤◌, length, IsOk, IfOk, IfErr, IfSome, MatchResult};
-ghost use Rattle.ua_command.specs.Ask.{IsAskStatus};
+ghost use Rattle.ua_command.specs.Ask.{IsAskStatus, IsReachStop, stop_of_reason};
 
-use crate::ask::{Question, ask_over};
+use crate::ask::{Question, ask_and_say};
 use crate::run::told;
-use crate::serve::tell_address;
 use crate::stop::Stop;
-use std::io;
-use std::io::{Read, Write};
-use std::net::OpenListener;
+use crate::why::{Broken, Why};
+use std::io::Write;
+use std::net::Net;
 use std::rt::Clock as HostClock;
-use ua_link::{MachineClock, TcpLink};
+use std::time::Duration;
+use ua_link::MachineClock;
+use ua_socket::{Deadline, Listener, Reason, Stream, TimedLink, Timer};
 use ua_value::plumbing::let_go;
 
-/// Asks the server at the other end of a stream, which is closed then.
-fn ask_stream<R, S, O, E>(
+/// What a reason is to the command.
+fn stop_of(reason: Reason) -> Stop
+    ensures { result ≡ stop_of_reason reason }
+{
+    match reason {
+        Reason::NoMemory => Stop::NoMemory,
+        _ => Stop::Link,
+    }
+}
+
+/// How the connection failed or ended, if it did, or else what was known before.
+fn why_of<S, T>(link: &TimedLink<S, T>, why: Why) -> Why {
+    if link.reason.is_none() && !link.ended {
+        return why;
+    }
+    Why::Broken(Broken {
+        reason: link.reason,
+        received: link.received,
+        quiet: link.quiet,
+    })
+}
+
+/// Asks the server at the other end of a stream within so many seconds, of which the timer says what is left; the stream
+/// is closed then.
+fn ask_stream<R, S, T, O, E>(
     rt: &R,
     stream: S,
+    timer: T,
+    seconds: u32,
     question: Question,
     url: Option<&str>,
     output: &mut O,
     errors: &mut E,
+    why: &mut Why,
 ) -> u8
 where
     R: HostClock + AllocGlobal,
-    S: Read + Write + Drop,
+    S: Stream + Drop,
+    T: Timer + Drop,
     O: Write,
     E: Write,
     requires { IfSome url (λ url. length url.now ≤ 4095) }
     ensures { IsAskStatus result }
 {
-    let mut link = TcpLink::new(stream);
+    let mut link = TimedLink::new(stream, timer, Duration::from_secs(u64::from(seconds)));
     let mut clock = MachineClock::new(rt);
-    ask_over(
+    let status = ask_and_say(
         rt.alloc(),
         &mut link,
         &mut clock,
@@ -41,84 +69,124 @@ where
         url,
         output,
         errors,
-    )
+        why,
+    );
+    *why = why_of(&link, *why);
+    status
 }
 
-/// Asks the server at the other end of a stream. `Link` says that there is no stream, and nothing else is said of that.
-pub fn ask_at<R, S, O, E>(
+/// Asks the server at the other end of a stream. Where there is no stream the stop says so, and nothing else is told.
+pub fn ask_at<R, S, T, O, E>(
     rt: &R,
-    stream: io::Result<S>,
+    stream: Result<S, Reason>,
+    timer: T,
+    seconds: u32,
     question: Question,
     url: &str,
     output: &mut O,
     errors: &mut E,
+    why: &mut Why,
 ) -> Result<u8, Stop>
 where
     R: HostClock + AllocGlobal,
-    S: Read + Write + Drop,
+    S: Stream + Drop,
+    T: Timer + Drop,
     O: Write,
     E: Write,
     requires { length url.now ≤ 4095 }
-    ensures reached { MatchResult stream (λ _. IsOk result) (λ _. result ≡ Err Stop.Link) }
+    ensures reached { MatchResult stream (λ _. IsOk result) (λ reason. result ≡ Err (stop_of_reason reason)) }
     ensures ok { IfOk result IsAskStatus }
-    ensures err { IfErr result (λ stop. stop ≡ Stop.Link) }
+    ensures err { IfErr result IsReachStop }
     ensures quiet { IfErr result (λ _. O.contents output.new ≡ O.contents output.old) }
     ensures untold { IfErr result (λ _. E.contents errors.new ≡ E.contents errors.old) }
 {
-    let Ok(stream) = stream else {
-        return Err(Stop::Link);
-    };
-    Ok(ask_stream(rt, stream, question, Some(url), output, errors))
+    match stream {
+        Ok(stream) => Ok(ask_stream(
+            rt,
+            stream,
+            timer,
+            seconds,
+            question,
+            Some(url),
+            output,
+            errors,
+            why,
+        )),
+        Err(reason) => {
+            *why = Why::NotReached(reason, seconds);
+            Err(stop_of(reason))
+        }
+    }
 }
 
-/// Tells where a listener listens, and asks the server that comes there first; no other one is let in. That none can be
-/// accepted is told.
-fn ask_first<R, L, O, E>(
+/// Tells at which address a listener listens; a failed write is passed over.
+fn tell_local<E: Write>(listener: &Listener, errors: &mut E) {
+    if let Ok(address) = listener.local_addr() {
+        let _ = writeln!(errors, "listening {address}");
+        let _ = errors.flush();
+    }
+}
+
+/// Asks the server that comes to a listener first, within what is left of so many seconds; no other one is let in. That
+/// none came, or could be accepted, is told.
+fn ask_first<R, O, E>(
     rt: &R,
-    listener: L,
+    mut listener: Listener,
+    mut deadline: Deadline<R>,
+    seconds: u32,
     question: Question,
     output: &mut O,
     errors: &mut E,
+    why: &mut Why,
 ) -> u8
 where
-    R: HostClock + AllocGlobal,
-    L: OpenListener + Drop,
-    L::Stream: Read + Write,
+    R: Net + HostClock + AllocGlobal,
     O: Write,
     E: Write,
     ensures { IsAskStatus result }
 {
-    tell_address(&listener, errors);
-    let came = listener.accept();
+    tell_local(&listener, errors);
+    let came = listener.accept(rt, rt.alloc(), &mut deadline);
     let_go(listener);
     match came {
-        Ok((stream, _)) => ask_stream(rt, stream, question, None, output, errors),
-        Err(_) => told(&Stop::Link, errors),
+        Ok(socket) => ask_stream(
+            rt, socket, deadline, seconds, question, None, output, errors, why,
+        ),
+        Err(reason) => {
+            *why = Why::NobodyCame(reason, seconds);
+            told(&stop_of(reason), errors)
+        }
     }
 }
 
-/// Asks the server that comes to a listener. `Link` says that there is no listener, and nothing else is said of that.
-pub fn ask_caller<R, L, O, E>(
+/// Asks the server that comes to a listener. Where there is no listener the stop says so, and nothing else is told.
+pub fn ask_caller<R, O, E>(
     rt: &R,
-    listener: io::Result<L>,
+    listener: Result<Listener, Reason>,
+    deadline: Deadline<R>,
+    seconds: u32,
     question: Question,
     output: &mut O,
     errors: &mut E,
+    why: &mut Why,
 ) -> Result<u8, Stop>
 where
-    R: HostClock + AllocGlobal,
-    L: OpenListener + Drop,
-    L::Stream: Read + Write,
+    R: Net + HostClock + AllocGlobal,
     O: Write,
     E: Write,
-    ensures bound { MatchResult listener (λ _. IsOk result) (λ _. result ≡ Err Stop.Link) }
+    ensures bound { MatchResult listener (λ _. IsOk result) (λ reason. result ≡ Err (stop_of_reason reason)) }
     ensures ok { IfOk result IsAskStatus }
-    ensures err { IfErr result (λ stop. stop ≡ Stop.Link) }
+    ensures err { IfErr result IsReachStop }
     ensures quiet { IfErr result (λ _. O.contents output.new ≡ O.contents output.old) }
     ensures untold { IfErr result (λ _. E.contents errors.new ≡ E.contents errors.old) }
 {
     match listener {
-        Ok(listener) => Ok(ask_first(rt, listener, question, output, errors)),
-        Err(_) => Err(Stop::Link),
+        Ok(listener) => Ok(ask_first(
+            rt, listener, deadline, seconds, question, output, errors, why,
+        )),
+        Err(reason) => {
+            *why = Why::NotListening(reason);
+            Err(stop_of(reason))
+        }
     }
 }

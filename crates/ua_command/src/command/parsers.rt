@@ -1,9 +1,9 @@
 //! The words of the command, as `clap` reads them.
 
-ghost use Rattle.std.specs.Prelude.{◌≡◌, IfOk, Ok, false};
+ghost use Rattle.std.specs.Prelude.{◌≡◌, IfOk, Ok, false, codes};
 ghost use Rattle.clap.specs.Words.{App, Rule, app_of, new_app, rule_of, with_rule, with_subcommand};
 ghost use Rattle.clap.specs.declared.builder.command.Command.TheViews.{out-Command};
-ghost use Rattle.ua_command.specs.Command.{optional_rule, word_rule, named_rule, type_rule, count_rule, reverse_rule, answer_app, value_app, show_app, serve_app, ask_app, plain, uadisc_with};
+ghost use Rattle.ua_command.specs.Command.{optional_rule, word_rule, named_rule, type_rule, count_rule, number_rule, reverse_rule, answer_app, value_app, show_app, serve_app, ask_app, plain, uadisc_with};
 
 use clap::builder::ValueParser;
 use clap::{Arg, ArgAction, Command as Parser};
@@ -68,10 +68,20 @@ fn count_word<'a>(alloc: Global) -> Arg<'a>
         alloc,
         "connections",
         "N",
-        "How many connections are served, from 1 to 65535",
+        "How many connections are served, from 1 to 65535; with --at-once or --patience to 4294967295",
     )
     .long("connections")
-    .value_parser(ValueParser::Unsigned(1, 65535))
+    .value_parser(ValueParser::Unsigned(1, 4_294_967_295))
+}
+
+/// A number from 1 on behind a name of its own, which may be left out.
+fn number_word<'a>(alloc: Global, id: &'a str, name: &'a str, most: u64, help: &'a str) -> Arg<'a>
+    ensures local { result.global ≡ false }
+    ensures rule { rule_of result ≡ number_rule id.entry.now most }
+{
+    optional(alloc, id, name, help)
+        .long(id)
+        .value_parser(ValueParser::Unsigned(1, most))
 }
 
 /// The flag by which the server opens the connection, with its line in the help.
@@ -191,6 +201,36 @@ fn show_parser<'a>(alloc: Global) -> Result<Parser<'a>, AllocError>
     ))
 }
 
+/// A parser with the words by which several connections are served at once.
+fn with_many_words<'a>(
+    alloc: Global,
+    parser: Result<Parser<'a>, AllocError>,
+) -> Result<Parser<'a>, AllocError>
+    ensures app { (app : App) → IfOk parser.entry (λ p. app_of p ≡ app) → IfOk result (λ c. app_of c ≡ with_rule (with_rule app (number_rule (codes "at-once") 65535)) (number_rule (codes "patience") 86400)) }
+    ensures local { IfOk parser.entry (λ p. (out-Command p).has_globals ≡ false) → IfOk result (λ c. (out-Command c).has_globals ≡ false) }
+{
+    let with_at_once = with_word(
+        parser,
+        number_word(
+            alloc,
+            "at-once",
+            "M",
+            65535,
+            "How many connections are served at one time, from 1 to 65535; 1 where only --patience is given",
+        ),
+    );
+    with_word(
+        with_at_once,
+        number_word(
+            alloc,
+            "patience",
+            "SECONDS",
+            86400,
+            "After how many seconds in which no byte comes or goes a connection is ended, from 1 to 86400; 30 where only --at-once is given",
+        ),
+    )
+}
+
 fn serve_parser<'a>(alloc: Global) -> Result<Parser<'a>, AllocError>
     ensures app { IfOk result (λ c. app_of c ≡ serve_app) }
     ensures local { IfOk result (λ c. (out-Command c).has_globals ≡ false) }
@@ -219,8 +259,9 @@ fn serve_parser<'a>(alloc: Global) -> Result<Parser<'a>, AllocError>
         ),
     );
     let with_count = with_word(with_address, count_word(alloc));
+    let with_many = with_many_words(alloc, with_count);
     with_word(
-        with_count,
+        with_many,
         reverse_flag(
             alloc,
             "Connects to ADDR, N times in turn, in place of listening there",
@@ -247,7 +288,7 @@ fn ask_parser<'a>(alloc: Global, names: &'a [&'a str]) -> Result<Parser<'a>, All
             alloc,
             "address",
             "ADDR",
-            "The address and port of the server, as `127.0.0.1:4840`",
+            "The address and port of the server, as `127.0.0.1:4840`, or a url that has them, as `opc.tcp://press:4840`",
         ),
     );
     let with_url = with_word(
@@ -256,14 +297,24 @@ fn ask_parser<'a>(alloc: Global, names: &'a [&'a str]) -> Result<Parser<'a>, All
             alloc,
             "url",
             "URL",
-            "The url by which the server is called, of at most 4095 bytes; left out with --reverse",
+            "The url by which the server is called, of at most 4095 bytes; left out with --reverse, and where ADDR is it",
         ),
     );
-    with_word(
+    let with_reverse = with_word(
         with_url,
         reverse_flag(
             alloc,
             "Listens at ADDR for a server that connects, and calls it by the url that it says",
+        ),
+    );
+    with_word(
+        with_reverse,
+        number_word(
+            alloc,
+            "timeout",
+            "SECONDS",
+            86400,
+            "How many seconds the whole question has, from 1 to 86400; 30 where this is left out",
         ),
     )
 }

@@ -1,6 +1,6 @@
 use Rattle.std.proofs.Common.{refl}
 use Rattle.ua_command.specs.Run.{Streams}
-use Rattle.ua_command.proofs.Ends.{answer_done, value_done, show_done, serve_done, ask_done, answer_stopped, file_stopped, serve_stopped, link_stopped, asked_short}
+use Rattle.ua_command.proofs.Ends.{answer_done, answer_reads, value_done, show_done, serve_done, many_done, ask_done, answer_stopped, file_stopped, serve_stopped, many_stopped, link_stopped, asked_short}
 use Rattle.ua_command.proofs.run.done.Goals as goal
 
 pub returns-in-Answer-clause-done : goal.returns-in-Answer-clause-done
@@ -10,6 +10,9 @@ returns-in-Answer-clause-done g c =
 
 pub returns-in-Answer-clause-err : goal.returns-in-Answer-clause-err
 returns-in-Answer-clause-err g c = answer_stopped _ c.in-Answer.source c.in-Answer.reverse _ c.answer.result (rw c.in-Answer.is at c.in-Ok.ensures.asked) c.answer.ensures.err
+
+pub returns-in-Answer-clause-unread : goal.returns-in-Answer-clause-unread
+returns-in-Answer-clause-unread g c = answer_reads _ c.in-Answer.source c.in-Answer.reverse _ _ (rw c.in-Answer.is at c.in-Ok.ensures.asked)
 
 pub returns-in-Value-clause-done : goal.returns-in-Value-clause-done
 returns-in-Value-clause-done g c =
@@ -35,13 +38,21 @@ returns-in-Serve-clause-done g c =
 pub returns-in-Serve-clause-err : goal.returns-in-Serve-clause-err
 returns-in-Serve-clause-err g c = serve_stopped _ c.in-Serve.source c.in-Serve.address c.in-Serve.connections c.in-Serve.reverse _ c.serve.result (rw c.in-Serve.is at c.in-Ok.ensures.asked) c.serve.ensures.err
 
+pub returns-in-ServeMany-clause-done : goal.returns-in-ServeMany-clause-done
+returns-in-ServeMany-clause-done g c =
+    let s : Streams = record { left = g.I.Read.remaining c.args.input.now; printed = g.O.Write.contents c.args.output.now; printed' = g.O.Write.contents c.serve_many.new.output; told = g.E.Write.contents c.args.errors.now; told' = g.E.Write.contents c.serve_many.new.errors } in
+    many_done _ c.in-ServeMany.source c.in-ServeMany.address c.in-ServeMany.connections c.in-ServeMany.at_once c.in-ServeMany.patience s c.serve_many.result (rw c.in-ServeMany.is at c.in-Ok.ensures.asked) c.serve_many.ensures.ok
+
+pub returns-in-ServeMany-clause-err : goal.returns-in-ServeMany-clause-err
+returns-in-ServeMany-clause-err g c = many_stopped _ c.in-ServeMany.source c.in-ServeMany.address c.in-ServeMany.connections c.in-ServeMany.at_once c.in-ServeMany.patience _ c.serve_many.result (rw c.in-ServeMany.is at c.in-Ok.ensures.asked) c.serve_many.ensures.err
+
 pub ask-requires : goal.ask-requires
-ask-requires g c = asked_short _ c.in-Ask.question c.in-Ask.address c.in-Ask.url c.as_deref.result (rw c.in-Ask.is at c.in-Ok.ensures.asked) c.as_deref.ensures.value
+ask-requires g c = asked_short _ c.in-Ask.question c.in-Ask.address c.in-Ask.url c.in-Ask.seconds c.as_deref.result (rw c.in-Ask.is at c.in-Ok.ensures.asked) c.as_deref.ensures.value
 
 pub returns-in-Ask-clause-done : goal.returns-in-Ask-clause-done
 returns-in-Ask-clause-done g c =
     let s : Streams = record { left = g.I.Read.remaining c.args.input.now; printed = g.O.Write.contents c.args.output.now; printed' = g.O.Write.contents c.ask.new.output; told = g.E.Write.contents c.args.errors.now; told' = g.E.Write.contents c.ask.new.errors } in
-    ask_done _ c.in-Ask.question c.in-Ask.address c.in-Ask.url s c.ask.result (rw c.in-Ask.is at c.in-Ok.ensures.asked) c.ask.ensures.ok
+    ask_done _ c.in-Ask.question c.in-Ask.address c.in-Ask.url c.in-Ask.seconds s c.ask.result (rw c.in-Ask.is at c.in-Ok.ensures.asked) c.ask.ensures.ok
 
 pub returns-in-Ask-clause-err : goal.returns-in-Ask-clause-err
-returns-in-Ask-clause-err g c = link_stopped _ c.in-Ask.question c.in-Ask.address c.in-Ask.url _ c.ask.result (rw c.in-Ask.is at c.in-Ok.ensures.asked) c.ask.ensures.err
+returns-in-Ask-clause-err g c = link_stopped _ c.in-Ask.question c.in-Ask.address c.in-Ask.url c.in-Ask.seconds _ c.ask.result (rw c.in-Ask.is at c.in-Ok.ensures.asked) c.ask.ensures.err

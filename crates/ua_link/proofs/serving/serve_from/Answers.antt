@@ -1,4 +1,4 @@
-use Rattle.std.proofs.Common.{arith, rules, ◌≡◌, ◌+◌, ◌≤◌, List, ℕ, sym, ap, subst, ◌∙◌, length, take, take_all}
+use Rattle.std.proofs.Common.{arith, rules, ◌+◌, sym, ap, subst, ◌∙◌, length, take, take_all}
 use Rattle.std.specs.Io.KnownBytes.{Appends}
 use Rattle.ua_conn.specs.declared.outcome.End.TheVariants.{LinkFailed, NoMemory}
 use Rattle.ua_link.specs.Clock.{Answered}

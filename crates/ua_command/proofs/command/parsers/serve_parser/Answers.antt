@@ -5,4 +5,5 @@ returns-clause-app c =
     let settings = c.with_word-with_settings.ensures.app _ _ c.command-serve.ensures.app c.required.ensures.rule in
     let address = c.with_word-with_address.ensures.app _ _ settings c.required-2.ensures.rule in
     let count = c.with_word-with_count.ensures.app _ _ address c.count_word.ensures.rule in
-    c.with_word.ensures.app _ _ count c.reverse_flag.ensures.rule
+    let many = c.with_many_words-with_many.ensures.app _ count in
+    c.with_word.ensures.app _ _ many c.reverse_flag.ensures.rule

@@ -1,0 +1,330 @@
+//! The connections of a server that has several at once, each with a place.
+
+use crate::sockets::{Accepted, Sockets};
+use std::alloc::Global;
+use ua_conn::End;
+use ua_disco::Settings;
+use ua_link::{Clock, LinkFault, Over, ReadyLink, ReadyTurn, ServerConnection};
+use ua_value::NoMemory;
+use ua_value::plumbing::let_go;
+
+/// The most reads of one connection.
+const TURNS: u32 = 65536;
+
+/// The ticks of 100 ns for which nobody is accepted after that failed: half a second.
+const PAUSE: i64 = 5_000_000;
+
+/// How often in a row accepting may fail.
+const MOST_FAILURES: u32 = 100;
+
+/// A connection that is over.
+#[derive(Clone, Copy, Debug)]
+pub struct Parted {
+    /// The id of its channel.
+    pub id: u32,
+    pub over: Over,
+    /// The bytes that came.
+    pub read: u64,
+    /// The bytes that went out.
+    pub written: u64,
+}
+
+/// What a step came to.
+#[derive(Clone, Copy, Debug)]
+pub enum Step {
+    /// Nothing to be told.
+    Quiet,
+    /// A connection is over, and its place is free again.
+    Parted(Parted),
+    /// No connection could be accepted; so often since the start.
+    NotAccepted(u64),
+    /// No connection could be accepted too often in a row.
+    Failed,
+}
+
+/// A connection and its link.
+#[derive(Drop)]
+struct Place<'a, L> {
+    id: u32,
+    link: L,
+    connection: ServerConnection<'a>,
+    read: u64,
+    written: u64,
+}
+
+impl<'a, L: ReadyLink> Place<'a, L> {
+    /// The ticks for which the client may still be quiet.
+    fn patience_left(&self, now: i64, patience: u64) -> u64 {
+        self.connection.patience_left(now, patience)
+    }
+
+    /// Gives the connection a turn, unless its link failed too often to count that.
+    fn turn<C: Clock>(&mut self, clock: &mut C, patience: u64) -> ReadyTurn {
+        if self.link.failures() == u64::MAX {
+            return ReadyTurn {
+                moment: 0,
+                cut: None,
+                written: 0,
+                over: Some(Over::Ended(End::LinkFailed)),
+            };
+        }
+        let turn = self.connection.turn(&mut self.link, clock, patience);
+        if let Some((_, n)) = turn.cut {
+            self.read = self.read.saturating_add(n as u64);
+        }
+        self.written = self.written.saturating_add(turn.written as u64);
+        turn
+    }
+}
+
+/// The connections of a server that has several at once. Each has one of so many places, and its link; where all are
+/// taken, the next connection waits in the listener.
+#[derive(Drop)]
+pub struct Connections<'a, L> {
+    alloc: Global,
+    settings: &'a Settings,
+    places: Vec<Option<Place<'a, L>>>,
+    /// Which places may do something, and behind them whether somebody may wait in the listener.
+    ready: Vec<bool>,
+    /// The ticks for which a client may be quiet.
+    patience: u64,
+    /// How many connections are still to be accepted.
+    left: u32,
+    /// The id of the last one that began.
+    last: u32,
+    now: i64,
+    /// The moment until which nobody is accepted.
+    shut: i64,
+    /// How often accepting failed, and how often since it last did not.
+    failed: u64,
+    in_a_row: u32,
+}
+
+/// The lesser of two numbers of ticks, where none is no limit.
+fn shorter(least: Option<u64>, ticks: u64) -> Option<u64> {
+    match least {
+        Some(least) => Some(least.min(ticks)),
+        None => Some(ticks),
+    }
+}
+
+impl<'a, L: ReadyLink + Drop> Connections<'a, L> {
+    /// None yet, of `wanted` that are to be served by these settings, `at_once` of them at most at one time, and none for
+    /// longer than `patience` ticks of 100 ns in which no byte comes or goes. Their channels have the ids from 1 on.
+    ///
+    /// # Errors
+    ///
+    /// `NoMemory` where a growth was refused.
+    pub fn new(
+        alloc: Global,
+        settings: &'a Settings,
+        wanted: u32,
+        at_once: u32,
+        patience: u64,
+    ) -> Result<Connections<'a, L>, NoMemory> {
+        let at_once = at_once as usize;
+        let ready = Vec::from_elem(alloc, true, at_once + 1)?;
+        let mut places = Vec::new(alloc);
+        'places: for _ in 0..at_once {
+            places.push(None)?;
+        }
+        Ok(Connections {
+            alloc,
+            settings,
+            places,
+            ready,
+            patience,
+            left: wanted,
+            last: 0,
+            now: 0,
+            shut: 0,
+            failed: 0,
+            in_a_row: 0,
+        })
+    }
+
+    /// How many places there are.
+    pub fn places(&self) -> usize {
+        self.places.len()
+    }
+
+    /// Whether all connections were served.
+    pub fn is_done(&self) -> bool {
+        self.left == 0 && self.places.iter().all(|place| place.is_none())
+    }
+
+    /// The ticks for which nobody is accepted. A clock that went back makes them no more.
+    fn shut_for(&self) -> u64 {
+        let ticks = self.shut.saturating_sub(self.now);
+        if ticks < 0 || ticks > PAUSE {
+            0
+        } else {
+            ticks as u64
+        }
+    }
+
+    /// Whether the link with this place, or with the number behind them the listener, may do something now.
+    fn is_ready(&self, place: usize) -> bool {
+        match self.ready.get(place) {
+            Some(ready) => *ready,
+            None => false,
+        }
+    }
+
+    /// Notes whether it may.
+    fn note(&mut self, place: usize, is_ready: bool) {
+        if let Some(ready) = self.ready.get_mut(place) {
+            *ready = is_ready;
+        }
+    }
+
+    /// Whether somebody may be accepted, once that is tried again.
+    fn may_accept(&self) -> bool {
+        self.left > 0 && self.is_ready(self.places.len())
+    }
+
+    /// The ticks after which something is to be done even if nothing is ready then.
+    fn longest_wait(&self) -> Option<u64> {
+        let mut least = None;
+        let mut is_free = false;
+        'places: for (place, ready) in self.places.iter().zip(self.ready.iter()) {
+            match place {
+                Some(_) if *ready => return Some(0),
+                Some(place) => {
+                    let left = place.patience_left(self.now, self.patience);
+                    least = shorter(least, left);
+                }
+                None => is_free = true,
+            }
+        }
+        if is_free && self.may_accept() {
+            least = shorter(least, self.shut_for());
+        }
+        least
+    }
+
+    /// Waits until something is ready, or some client was quiet for too long.
+    ///
+    /// # Errors
+    ///
+    /// `LinkFault` where nothing can be waited for.
+    pub fn wait<S: Sockets, C: Clock>(
+        &mut self,
+        sockets: &mut S,
+        clock: &mut C,
+    ) -> Result<(), LinkFault> {
+        self.now = clock.now();
+        let at_most = self.longest_wait();
+        let waited = sockets.wait(at_most, &mut self.ready);
+        self.now = clock.now();
+        waited
+    }
+
+    /// Gives the place with this number a step: where it is free, the next connection that waits takes it; where it is
+    /// taken, and its link is ready or its client was quiet for too long, the connection has a turn.
+    pub fn step<S: Sockets<Link = L>, C: Clock>(
+        &mut self,
+        sockets: &mut S,
+        clock: &mut C,
+        place: usize,
+    ) -> Step {
+        match self.places.get(place) {
+            Some(Some(_)) => self.turn(clock, place),
+            Some(None) => self.admit(sockets, clock, place),
+            None => Step::Quiet,
+        }
+    }
+
+    /// Gives the next connection a place, if one waits.
+    fn admit<S: Sockets<Link = L>, C: Clock>(
+        &mut self,
+        sockets: &mut S,
+        clock: &mut C,
+        place: usize,
+    ) -> Step {
+        if !self.may_accept() || self.shut_for() > 0 {
+            return Step::Quiet;
+        }
+        match sockets.accept(place) {
+            Accepted::Link(link) => self.begin(link, clock.now(), place),
+            Accepted::Nobody => {
+                let listener = self.places.len();
+                self.note(listener, false);
+                Step::Quiet
+            }
+            Accepted::Failed => self.fail(),
+        }
+    }
+
+    /// Notes that nobody could be accepted, which is tried again after a pause, but not for ever.
+    fn fail(&mut self) -> Step {
+        self.failed = self.failed.saturating_add(1);
+        self.in_a_row = self.in_a_row.saturating_add(1);
+        self.shut = self.now.saturating_add(PAUSE);
+        if self.in_a_row < MOST_FAILURES {
+            Step::NotAccepted(self.failed)
+        } else {
+            Step::Failed
+        }
+    }
+
+    /// Begins a connection.
+    fn begin(&mut self, link: L, now: i64, place: usize) -> Step {
+        self.in_a_row = 0;
+        self.left = self.left.saturating_sub(1);
+        self.last = self.last.saturating_add(1);
+        let id = self.last;
+        let Ok(connection) = ServerConnection::new(self.alloc, self.settings, id, now, TURNS) else {
+            let_go(link);
+            return Step::Parted(Parted {
+                id,
+                over: Over::Ended(End::NoMemory),
+                read: 0,
+                written: 0,
+            });
+        };
+        if let Some(free) = self.places.get_mut(place) {
+            *free = Some(Place {
+                id,
+                link,
+                connection,
+                read: 0,
+                written: 0,
+            });
+        }
+        self.note(place, true);
+        Step::Quiet
+    }
+
+    /// Gives the connection with this place a turn, if it is due, and frees the place where that is its last.
+    fn turn<C: Clock>(&mut self, clock: &mut C, place: usize) -> Step {
+        let is_ready = self.is_ready(place);
+        let Some(Some(taken)) = self.places.get_mut(place) else {
+            return Step::Quiet;
+        };
+        if !is_ready && taken.patience_left(self.now, self.patience) > 0 {
+            return Step::Quiet;
+        }
+        let turn = taken.turn(clock, self.patience);
+        let Some(over) = turn.over else {
+            self.note(place, turn.has_moved());
+            return Step::Quiet;
+        };
+        let parted = Parted {
+            id: taken.id,
+            over,
+            read: taken.read,
+            written: taken.written,
+        };
+        self.free(place);
+        Step::Parted(parted)
+    }
+
+    /// Frees a place: its connection and its link are let go of.
+    fn free(&mut self, place: usize) {
+        if let Some(taken) = self.places.get_mut(place) {
+            *taken = None;
+        }
+        self.note(place, false);
+    }
+}

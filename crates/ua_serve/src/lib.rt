@@ -1,0 +1,10 @@
+//! A server of several connections at once: one activity, which gives each that is ready a turn, and waits for none.
+#![tactic(auto)]
+
+mod connections;
+mod sockets;
+mod tcp;
+
+pub use connections::{Connections, Parted, Step};
+pub use sockets::{Accepted, Sockets};
+pub use tcp::TcpSockets;

@@ -1,0 +1,31 @@
+//! Where connections come from, and what says which of them is ready.
+
+use ua_link::{LinkFault, ReadyLink};
+
+/// What came of looking for the next connection.
+#[derive(Drop)]
+pub enum Accepted<L> {
+    /// This one was taken.
+    Link(L),
+    /// None waits.
+    Nobody,
+    /// None was taken, since the call failed. A later one may not.
+    Failed,
+}
+
+/// A listener, and the links of the connections that were taken from it, each with a place: a number from 0 on.
+pub trait Sockets {
+    type Link: ReadyLink + Drop;
+
+    /// Waits until something is ready, but no longer than so many ticks of 100 ns, or however long that takes without
+    /// them. `ready` has an entry for each place, and one behind them for the listener: those become true whose link, or
+    /// listener, may do something now. The others stay as they are.
+    ///
+    /// # Errors
+    ///
+    /// `LinkFault` where nothing can be waited for.
+    fn wait(&mut self, at_most: Option<u64>, ready: &mut [bool]) -> Result<(), LinkFault>;
+
+    /// Takes the next connection that waits, if any does. Its link has this place from then on.
+    fn accept(&mut self, place: usize) -> Accepted<Self::Link>;
+}
