@@ -10,20 +10,33 @@ GIGABYTES_A_LANE = 4
 Task = collections.namedtuple("Task", "name after weight takes_more run")
 
 
-def run_in_lanes(lanes, tasks):
+class Width:
+    """How many lanes there are."""
+
+    def __init__(self, number):
+        self.number = number
+
+    def widen(self, *_):
+        """Takes all processors, as far as memory is free for more checks than run."""
+        more = int(free_memory() / GIGABYTES_A_LANE / 1e9)
+        self.number = max(self.number, min(processors(), self.number + more))
+
+
+def run_in_lanes(width, tasks):
     """Runs tasks side by side, the heaviest first, each once those that it waits for have ended. A task gives the tasks that come of it."""
     left, running, ended = list(tasks), {}, set()
-    with ThreadPoolExecutor(lanes) as pool:
+    with ThreadPoolExecutor(max(width.number, processors())) as pool:
         while left or running:
             ready = sorted((it for it in left if ended.issuperset(it.after)), key=lambda it: -it.weight)
             for at, task in enumerate(ready):
-                free = lanes - sum(jobs for _, jobs in running.values())
+                free = width.number - sum(jobs for _, jobs in running.values())
                 if free <= 0:
                     break
                 jobs = max(1, min(4, free // (len(ready) - at))) if task.takes_more else 1
                 left.remove(task)
                 running[pool.submit(task.run, jobs)] = task, jobs
-            for it in wait(running, return_when=FIRST_COMPLETED).done:
+            # (not for long, since there may be more lanes by then)
+            for it in wait(running, timeout=10, return_when=FIRST_COMPLETED).done:
                 task, _ = running.pop(it)
                 ended.add(task.name)
                 left += it.result()
