@@ -10,3 +10,4 @@ pub mod Options
 pub mod Pcapng
 pub mod File
 pub mod Reading
+pub mod Beginning

@@ -17,7 +17,7 @@ pub(crate) struct FileHeader {
 }
 
 /// The order and the resolution that a magic number says.
-fn magic_of(magic: u32) -> Option<(Order, bool)>
+pub(crate) fn magic_of(magic: u32) -> Option<(Order, bool)>
     ensures { result ≡ magic_of magic }
 {
     match magic {

@@ -6,20 +6,22 @@ use Rattle.std.specs.Global.{Global, Vec}
 use Rattle.clap.specs.Words.{Text}
 use Rattle.ua_command.specs.Answer.{AnswersBy}
 use Rattle.ua_command.specs.Ask.{IsAskStatus, IsReachStop}
-use Rattle.ua_command.specs.Command.{AsksFor, IsUrlOf}
-use Rattle.ua_command.specs.Printed.{shape_of, PrintsOnto, RefusesOnto}
+use Rattle.ua_words.specs.Command.{AsksFor, IsUrlOf}
+use Rattle.ua_command.specs.Printed.{shape_of, PrintsIn, RefusesIn}
 use Rattle.ua_command.specs.Run.{Streams, IsDone, IsStop, IsOverLinks, RefusesSettingsOf, LeavesInput}
 use Rattle.ua_command.specs.Settings.{RefusesSource}
 use Rattle.ua_disco.specs.declared.fault.SettingsFault.{SettingsFault}
 use Rattle.ua_command.specs.Serve.{Serves, IsServeStop}
-use Rattle.ua_command.specs.Show.{ShowsCapture}
+use Rattle.ua_command.specs.Show.{LeavesFor, ShowsCapture}
 use Rattle.ua_command.specs.Stop.{IsAnswerStop, IsFileStop}
 use Rattle.ua_kind.specs.declared.kind.Kind.{Kind}
-use Rattle.ua_command.specs.declared.ask.Question.{Question}
-use Rattle.ua_command.specs.declared.settings.Source.{Source}
-use Rattle.ua_command.specs.declared.show.Capture.{Capture}
-use Rattle.ua_command.specs.declared.command.Command.{Command}
-use Rattle.ua_command.specs.declared.command.Command.TheVariants.{Answer, Value, Show, Serve, ServeMany, Ask}
+use Rattle.ua_words.specs.declared.form.Form.{Form}
+use Rattle.ua_words.specs.declared.question.Question.{Question}
+use Rattle.ua_words.specs.declared.source.Source.{Source}
+use Rattle.ua_words.specs.declared.capture.Capture.{Capture}
+use Rattle.ua_words.specs.declared.capture.Capture.TheVariants as captures
+use Rattle.ua_words.specs.declared.command.Command.{Command}
+use Rattle.ua_words.specs.declared.command.Command.TheVariants.{Answer, Value, Show, Serve, ServeMany, Ask, Check}
 use Rattle.ua_command.specs.declared.stop.Stop.{Stop}
 use Rattle.ua_command.specs.declared.stop.Stop.TheVariants.{Words, Settings, Line, Reverse, File, Link, NoMemory}
 
@@ -31,16 +33,16 @@ answer_done words source reverse s (Ok status) asked untold h = inl (Answer sour
 answer_done words source reverse s (Err stop) asked untold h = h
 
 -- a value is shown, or that there is none
-pub value_done : (words : List Text) (kind : Kind) (bytes : Vec ℕ) (s : Streams) (r : Result ℕ Stop) → AsksFor words (Value kind bytes) → s.told' ≡ s.told
-    → IfOk r (λ status. status ≡ 0 → PrintsOnto (shape_of kind) bytes.items s.printed s.printed') → IfOk r (λ status. status ≡ 1 → RefusesOnto (shape_of kind) bytes.items s.printed s.printed') → IfOk r (λ status. status ≤ 1)
+pub value_done : (words : List Text) (kind : Kind) (bytes : Vec ℕ) (form : Form) (s : Streams) (r : Result ℕ Stop) → AsksFor words (Value kind bytes form) → s.told' ≡ s.told
+    → IfOk r (λ status. status ≡ 0 → PrintsIn form (shape_of kind) bytes.items s.printed s.printed') → IfOk r (λ status. status ≡ 1 → RefusesIn form (shape_of kind) bytes.items s.printed s.printed') → IfOk r (λ status. status ≤ 1)
     → IfOk r (IsDone words s)
-value_done words kind bytes s (Ok status) asked untold value refused small = inl (Value kind bytes, asked, record { value = value; refused = refused; status_is = small }, untold)
-value_done words kind bytes s (Err stop) asked untold value refused small = small
+value_done words kind bytes form s (Ok status) asked untold value refused small = inl (Value kind bytes form, asked, record { value = value; refused = refused; status_is = small }, untold)
+value_done words kind bytes form s (Err stop) asked untold value refused small = small
 
-pub show_done : (words : List Text) (capture : Capture) (s : Streams) (r : Result ℕ Stop) → AsksFor words (Show capture) → s.told' ≡ s.told
-    → IfOk r (ShowsCapture capture s.left s.printed s.printed') → IfOk r (IsDone words s)
-show_done words capture s (Ok status) asked untold h = inl (Show capture, asked, h, untold)
-show_done words capture s (Err stop) asked untold h = h
+pub show_done : (words : List Text) (capture : Capture) (form : Form) (stream port : Option ℕ) (s : Streams) (r : Result ℕ Stop) → AsksFor words (Show capture form stream port)
+    → IfOk r (ShowsCapture form capture s.left s.printed s.printed') → IfOk r (IsDone words s)
+show_done words capture form stream port s (Ok status) asked h = inl (Show capture form stream port, asked, h, tt)
+show_done words capture form stream port s (Err stop) asked h = h
 
 pub serve_done : (words : List Text) (source : Source) (address : String Global) (connections : ℕ) (reverse : Bool) (s : Streams) (r : Result ℕ Stop) → AsksFor words (Serve source address connections reverse)
     → IfOk r (Serves reverse source) → IfOk r (IsDone words s)
@@ -52,14 +54,24 @@ pub many_done : (words : List Text) (source : Source) (address : String Global) 
 many_done words source address connections at_once patience s (Ok status) asked h = inl (ServeMany source address connections at_once patience, asked, h, tt)
 many_done words source address connections at_once patience s (Err stop) asked h = h
 
-pub ask_done : (words : List Text) (question : Question) (address : String Global) (url : Option (String Global)) (seconds : ℕ) (s : Streams) (r : Result ℕ Stop) → AsksFor words (Ask question address url seconds)
+pub ask_done : (words : List Text) (question : Question) (locales filter : Option (List (Option (List ℕ)))) (address : String Global) (url : Option (String Global)) (seconds : ℕ) (form : Form) (s : Streams) (r : Result ℕ Stop) → AsksFor words (Ask question locales filter address url seconds form)
     → IfOk r IsAskStatus → IfOk r (IsDone words s)
-ask_done words question address url seconds s (Ok status) asked h = inl (Ask question address url seconds, asked, h, tt)
-ask_done words question address url seconds s (Err stop) asked h = h
+ask_done words question locales filter address url seconds form s (Ok status) asked h = inl (Ask question locales filter address url seconds form, asked, h, tt)
+ask_done words question locales filter address url seconds form s (Err stop) asked h = h
+
+pub check_done : (words : List Text) (source : Source) (address url : String Global) (seconds : ℕ) (s : Streams) (r : Result ℕ Stop) → AsksFor words (Check source address url seconds)
+    → IfOk r IsAskStatus → IfOk r (IsDone words s)
+check_done words source address url seconds s (Ok status) asked h = inl (Check source address url seconds, asked, h, tt)
+check_done words source address url seconds s (Err stop) asked h = h
 
 -- an answer reads its input
 pub answer_reads : (words : List Text) (source : Source) (reverse : Bool) (old new : Option (List ℕ)) → AsksFor words (Answer source reverse) → LeavesInput words old new
 answer_reads words source reverse old new asked = inr (Answer source reverse, asked, tt)
+
+-- so does `show` of standard input, and of a file the input stays as it was
+pub show_unread : (words : List Text) (capture : Capture) (form : Form) (stream port : Option ℕ) (old new : Option (List ℕ)) → AsksFor words (Show capture form stream port) → LeavesFor capture old new → LeavesInput words old new
+show_unread words captures.Input form stream port old new asked h = inr (Show captures.Input form stream port, asked, tt)
+show_unread words (captures.File path) form stream port old new asked h = inl h
 
 -- ---- stopped
 
@@ -109,6 +121,11 @@ pub many_stopped : (words : List Text) (source : Source) (address : String Globa
 many_stopped words source address connections at_once patience left (Ok status) asked h = h
 many_stopped words source address connections at_once patience left (Err stop) asked h = serve_stop words (ServeMany source address connections at_once patience) source left stop asked tt (λ fault refused. refused) h
 
+pub check_stopped : (words : List Text) (source : Source) (address url : String Global) (seconds : ℕ) (left : Option (List ℕ)) (r : Result ℕ Stop) → AsksFor words (Check source address url seconds)
+    → IfErr r (IsServeStop source) → IfErr r (IsStop words left)
+check_stopped words source address url seconds left (Ok status) asked h = h
+check_stopped words source address url seconds left (Err stop) asked h = serve_stop words (Check source address url seconds) source left stop asked tt (λ fault refused. refused) h
+
 link_stop : (words : List Text) (c : Command) (left : Option (List ℕ)) (stop : Stop) → AsksFor words c → IsOverLinks c → IsReachStop stop → IsStop words left stop
 link_stop words c left (Words text) asked over h = absurd h
 link_stop words c left (Settings fault) asked over h = absurd h
@@ -118,10 +135,10 @@ link_stop words c left File asked over h = absurd h
 link_stop words c left Link asked over h = (c, asked, over)
 link_stop words c left NoMemory asked over h = tt
 
-pub link_stopped : (words : List Text) (question : Question) (address : String Global) (url : Option (String Global)) (seconds : ℕ) (left : Option (List ℕ)) (r : Result ℕ Stop) → AsksFor words (Ask question address url seconds)
+pub link_stopped : (words : List Text) (question : Question) (locales filter : Option (List (Option (List ℕ)))) (address : String Global) (url : Option (String Global)) (seconds : ℕ) (form : Form) (left : Option (List ℕ)) (r : Result ℕ Stop) → AsksFor words (Ask question locales filter address url seconds form)
     → IfErr r IsReachStop → IfErr r (IsStop words left)
-link_stopped words question address url seconds left (Ok status) asked h = h
-link_stopped words question address url seconds left (Err stop) asked h = link_stop words (Ask question address url seconds) left stop asked tt h
+link_stopped words question locales filter address url seconds form left (Ok status) asked h = h
+link_stopped words question locales filter address url seconds form left (Err stop) asked h = link_stop words (Ask question locales filter address url seconds form) left stop asked tt h
 
 -- ---- what a question is called by
 
@@ -131,5 +148,9 @@ short reverse text address None (Some u) h e = absurd cc
 short reverse text address (Some s) (Some u) h e = subst (λ (t : List ℕ). length t ≤ 4095) (sym (same_Some _ _ e)) h.2
 
 -- a url that the words name is short, as it is lent too
-pub asked_short : (words : List Text) (question : Question) (address : String Global) (url : Option (String Global)) (seconds : ℕ) (lent : Option (Bor (List ℕ))) → AsksFor words (Ask question address url seconds) → option_map (λ u. u.now) lent ≡ option_map string_bytes url → IfSome lent (λ u. length u.now ≤ 4095)
-asked_short words question address url seconds lent asked e = short _ _ _ url lent asked.2.named.2.2 e
+pub asked_short : (words : List Text) (question : Question) (locales filter : Option (List (Option (List ℕ)))) (address : String Global) (url : Option (String Global)) (seconds : ℕ) (form : Form) (lent : Option (Bor (List ℕ))) → AsksFor words (Ask question locales filter address url seconds form) → option_map (λ u. u.now) lent ≡ option_map string_bytes url → IfSome lent (λ u. length u.now ≤ 4095)
+asked_short words question locales filter address url seconds form lent asked e = short _ _ _ url lent asked.2.named.2.2.1 e
+
+-- and so is that of a server that is checked
+pub checked_short : (words : List Text) (source : Source) (address url : String Global) (seconds : ℕ) → AsksFor words (Check source address url seconds) → length (string_bytes url) ≤ 4095
+checked_short words source address url seconds asked = asked.2.named.2.1.1.1

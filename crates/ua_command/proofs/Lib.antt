@@ -1,16 +1,9 @@
-pub mod Rows
 pub mod Lines
 pub mod Dropped
 pub mod Runs
 pub mod Values
-pub mod Asked
-pub mod Codes
-pub mod Captures
 pub mod Ends
 pub mod Opening
 pub mod Stops
 pub mod Serving
-pub mod Digits
-pub mod FrameLines
-pub mod Texts
-pub mod PartLemmas
+pub mod Showing

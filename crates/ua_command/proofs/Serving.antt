@@ -4,7 +4,7 @@ use Rattle.ua_disco.specs.Configuration.{Configuration}
 use Rattle.ua_command.specs.Serve.{IsServeStatus, IsServingStop, IsServedStatus, IsServeStop, Serves}
 use Rattle.ua_command.specs.Settings.{IsSettings}
 use Rattle.ua_command.specs.Stop.{status_of}
-use Rattle.ua_command.specs.declared.settings.Source.{Source}
+use Rattle.ua_words.specs.declared.source.Source.{Source}
 use Rattle.ua_command.specs.declared.stop.Stop.{Stop}
 use Rattle.ua_command.specs.declared.stop.Stop.TheVariants.{Words, Settings, Line, Reverse, File, Link, NoMemory}
 

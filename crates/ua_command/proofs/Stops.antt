@@ -6,7 +6,7 @@ use Rattle.ua_command.specs.Reverse.{IsReverseFault}
 use Rattle.ua_command.specs.Script.{Timed, script_in}
 use Rattle.ua_command.specs.Settings.{IsSettings}
 use Rattle.ua_command.specs.Stop.{IsSettingsStop, IsFileStop, IsInputStop, IsAnsweringStop, IsAnswerStop, stop_of_reverse}
-use Rattle.ua_command.specs.declared.settings.Source.{Source}
+use Rattle.ua_words.specs.declared.source.Source.{Source}
 use Rattle.ua_command.specs.declared.stop.Stop.{Stop}
 use Rattle.ua_command.specs.declared.stop.Stop.TheVariants.{Words, Settings, Line, Reverse, File, Link, NoMemory}
 use Rattle.ua_conn.specs.declared.server.greeting.ReverseFault.{ReverseFault}

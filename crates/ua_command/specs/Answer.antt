@@ -9,11 +9,11 @@ use Rattle.ua_conn.specs.server.Replies.{reply_bytes, end_of}
 use Rattle.ua_conn.specs.server.Site.{Site}
 use Rattle.ua_conn.specs.declared.outcome.End.{End}
 use Rattle.ua_conn.specs.declared.outcome.End.TheVariants.{Closed, InputEnded, Truncated, Refused, LinkFailed, TurnsSpent, NoMemory}
-use Rattle.ua_command.specs.Printed.{status_text}
+use Rattle.ua_print.specs.Printed.{status_text}
 use Rattle.ua_command.specs.Reverse.{CanOpen}
 use Rattle.ua_command.specs.Script.{Timed, script_in}
 use Rattle.ua_command.specs.Settings.{IsSettings}
-use Rattle.ua_command.specs.declared.settings.Source.{Source}
+use Rattle.ua_words.specs.declared.source.Source.{Source}
 
 -- a server with these settings, with channel 1
 abbrev pub site_with : Configuration → Site

@@ -1,7 +1,6 @@
--- What the command prints.
-use Rattle.std.specs.Prelude.{◌≡◌, ℕ, nat_lt, nat_le, ◌==◌, ◌&&◌, ◌/◌, ◌%◌, ◌+◌, ◌-◌, not, true, if◌then◌else◌, List, ◌++◌, ◌∷◌, [], codes, length, replicate, Option, Some, None, Ok}
-use Rattle.std.specs.List.{flat_map}
-use Rattle.std.specs.Fmt.{decimal, digits}
+-- What `value` prints.
+use Rattle.std.specs.Prelude.{◌≡◌, ℕ, List, ◌++◌, [], codes, length, Option, Ok}
+use Rattle.std.specs.Fmt.{decimal}
 use Rattle.std.specs.Int.{w8, w16, w32, w64}
 use Rattle.hex.specs.Hex.{encode_lower}
 use Rattle.uuid.specs.Text.{hyphenated_text, lower}
@@ -22,46 +21,11 @@ use Rattle.ua_variant.specs.Formats.{variant_format, data_format}
 use Rattle.ua_variant.specs.Diagnostic.{diagnostic}
 use Rattle.ua_value.specs.declared.guid.Guid.{Guid}
 use Rattle.ua_value.specs.declared.node.NodeId.{NodeId}
-use Rattle.ua_value.specs.declared.node.Identifier.{Identifier}
-use Rattle.ua_value.specs.declared.node.Identifier.TheVariants as identifiers
 use Rattle.ua_kind.specs.declared.kind.Kind.{Kind}
 use Rattle.ua_kind.specs.declared.kind.Kind.TheVariants as types
-
--- a lower-case hex digit
-abbrev pub hex_digit : ℕ → ℕ
-hex_digit n = if nat_lt n 10 then 48 + n else 87 + n
-
-abbrev pub two_digits : ℕ → List ℕ
-two_digits byte = hex_digit (byte / 16) ∷ hex_digit (byte % 16) ∷ []
-
--- the printable characters of ASCII but the double quote and the backslash stand for themselves
-abbrev pub escaped : ℕ → List ℕ
-escaped byte = if nat_le 32 byte && nat_le byte 126 && not (byte == 34) && not (byte == 92) then byte ∷ [] else 92 ∷ 120 ∷ two_digits byte
-
--- a text, or none
-abbrev pub quoted : Option (List ℕ) → List ℕ
-quoted None = codes "null"
-quoted (Some bytes) = 34 ∷ flat_map escaped bytes ++ 34 ∷ []
-
-abbrev pub opaque_text : Option (List ℕ) → List ℕ
-opaque_text None = codes "b=null"
-opaque_text (Some bytes) = codes "b=" ++ flat_map two_digits bytes
-
-abbrev pub identifier_text : Identifier → List ℕ
-identifier_text (identifiers.Numeric id) = codes "i=" ++ decimal id
-identifier_text (identifiers.String text) = codes "s=" ++ quoted text
-identifier_text (identifiers.Guid guid) = codes "g=" ++ hyphenated_text lower (digits_of guid)
-identifier_text (identifiers.Opaque bytes) = opaque_text bytes
-
-abbrev pub namespace_text : ℕ → List ℕ
-namespace_text namespace = if namespace == 0 then [] else codes "ns=" ++ decimal namespace ++ codes ";"
-
-abbrev pub node_text : NodeId → List ℕ
-node_text node = namespace_text node.namespace_index ++ identifier_text node.identifier
-
--- a status as eight hex digits in upper case
-abbrev pub status_text : ℕ → List ℕ
-status_text status = replicate (8 - length (digits 16 true status)) 48 ++ digits 16 true status
+use Rattle.ua_print.specs.Printed.{node_text}
+use Rattle.ua_words.specs.declared.form.Form.{Form}
+use Rattle.ua_words.specs.declared.form.Form.TheVariants.{Lines, Whole, Json}
 
 -- the two lines of each value
 abbrev pub value_lines : ℕ → ℕ → List ℕ → List ℕ
@@ -114,6 +78,26 @@ Prints s input text = (x : s.Value × ℕ) × Reads s.format input (Ok x) × (te
 abbrev pub PrintsOnto : Shape → List ℕ → Option (List ℕ) → Option (List ℕ) → Type 0
 PrintsOnto s input old new = (text : List ℕ) × Prints s input text × Appends old new text
 
+-- the same with more behind them
+abbrev pub PrintsMore : Shape → List ℕ → Option (List ℕ) → Option (List ℕ) → Type 0
+PrintsMore s input old new = (lines more : List ℕ) × Prints s input lines × Appends old new (lines ++ more)
+
+-- a text that is not said here
+abbrev pub PrintsSome : Option (List ℕ) → Option (List ℕ) → Type 0
+PrintsSome old new = (text : List ℕ) × Appends old new text
+
 -- the bytes begin with no spelling of a value, and one line that says so stands behind what the writer held
 abbrev pub RefusesOnto : Shape → List ℕ → Option (List ℕ) → Option (List ℕ) → Type 0
 RefusesOnto s input old new = BeginsNone s.format.grammar input × Appends old new (codes "refused\n")
+
+-- what is printed of a value in each form; that of JSON is not said here
+abbrev pub PrintsIn : Form → Shape → List ℕ → Option (List ℕ) → Option (List ℕ) → Type 0
+PrintsIn Lines s input old new = PrintsOnto s input old new
+PrintsIn Whole s input old new = PrintsMore s input old new
+PrintsIn Json s input old new = PrintsSome old new
+
+-- and of bytes that begin with none
+abbrev pub RefusesIn : Form → Shape → List ℕ → Option (List ℕ) → Option (List ℕ) → Type 0
+RefusesIn Lines s input old new = RefusesOnto s input old new
+RefusesIn Whole s input old new = RefusesOnto s input old new
+RefusesIn Json s input old new = PrintsSome old new

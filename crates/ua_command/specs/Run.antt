@@ -4,44 +4,47 @@ use Rattle.std.specs.Io.KnownBytes.{Appends}
 use Rattle.clap.specs.Words.{Text}
 use Rattle.ua_command.specs.Answer.{AnswersBy}
 use Rattle.ua_command.specs.Ask.{IsAskStatus}
-use Rattle.ua_command.specs.Command.{AsksFor, AsksForText, AsksForNothing}
-use Rattle.ua_command.specs.Printed.{Shape, shape_of, PrintsOnto, RefusesOnto}
+use Rattle.ua_words.specs.Command.{AsksFor, AsksForText, AsksForNothing}
+use Rattle.ua_command.specs.Printed.{Shape, shape_of, PrintsIn, RefusesIn}
 use Rattle.ua_command.specs.Serve.{Serves}
 use Rattle.ua_command.specs.Settings.{RefusesSource}
 use Rattle.ua_command.specs.Show.{ShowsCapture}
 use Rattle.ua_command.specs.Stop.{status_of, IsAnswerStop, IsQuiet}
-use Rattle.ua_command.specs.declared.command.Command.{Command}
-use Rattle.ua_command.specs.declared.command.Command.TheVariants.{Answer, Value, Show, Serve, ServeMany, Ask}
+use Rattle.ua_words.specs.declared.command.Command.{Command}
+use Rattle.ua_words.specs.declared.command.Command.TheVariants.{Answer, Value, Show, Serve, ServeMany, Ask, Check}
 use Rattle.ua_command.specs.declared.stop.Stop.{Stop}
 use Rattle.ua_disco.specs.declared.fault.SettingsFault.{SettingsFault}
-use Rattle.ua_command.specs.declared.settings.Source.{Source}
-use Rattle.ua_command.specs.declared.show.Capture.{Capture}
-use Rattle.ua_command.specs.declared.show.Capture.TheVariants as captures
+use Rattle.ua_words.specs.declared.source.Source.{Source}
+use Rattle.ua_words.specs.declared.form.Form.{Form}
+use Rattle.ua_words.specs.declared.capture.Capture.{Capture}
+use Rattle.ua_words.specs.declared.capture.Capture.TheVariants as captures
 use Rattle.ua_command.specs.declared.stop.Stop.TheVariants.{Words, Settings, Line, Reverse, File, Link, NoMemory}
 
--- at 0 the lines of a value stand behind what the writer held, and at 1 one line that says that there is none
-pub record Shows (s : Shape) (input : List ℕ) (old new : Option (List ℕ)) (status : ℕ) : Type 0 where
-  pub value : status ≡ 0 → PrintsOnto s input old new
-  pub refused : status ≡ 1 → RefusesOnto s input old new
+-- at 0 a value stands in a form behind what the writer held, and at 1 that there is none
+pub record Shows (form : Form) (s : Shape) (input : List ℕ) (old new : Option (List ℕ)) (status : ℕ) : Type 0 where
+  pub value : status ≡ 0 → PrintsIn form s input old new
+  pub refused : status ≡ 1 → RefusesIn form s input old new
   pub status_is : status ≤ 1
 
 -- What a command does with its input and output, where nothing stops it. What is printed of a connection is not said: nothing is known of what a socket carries.
 abbrev pub Does : Command → Option (List ℕ) → Option (List ℕ) → Option (List ℕ) → ℕ → Type 0
 Does (Answer source reverse) left old new status = AnswersBy reverse source left old new status
-Does (Value kind bytes) left old new status = Shows (shape_of kind) bytes.items old new status
-Does (Show capture) left old new status = ShowsCapture capture left old new status
+Does (Value kind bytes form) left old new status = Shows form (shape_of kind) bytes.items old new status
+Does (Show capture form stream port) left old new status = ShowsCapture form capture left old new status
 Does (Serve source address connections reverse) left old new status = Serves reverse source status
 Does (ServeMany source address connections at_once patience) left old new status = Serves false source status
-Does (Ask question address url seconds) left old new status = IsAskStatus status
+Does (Ask question locales filter address url seconds form) left old new status = IsAskStatus status
+Does (Check source address url seconds) left old new status = IsAskStatus status
 
--- A command that is done tells nothing but where it is one over links, which tells where it listens, and how a link failed.
+-- A command that is done tells nothing but where it is one over links, which tells where it listens, and how a link failed, or shows a file of packets, which tells what stopped it in its midst.
 abbrev pub TellsOf : Command → Option (List ℕ) → Option (List ℕ) → Type 0
 TellsOf (Answer source reverse) old new = new ≡ old
-TellsOf (Value kind bytes) old new = new ≡ old
-TellsOf (Show capture) old new = new ≡ old
+TellsOf (Value kind bytes form) old new = new ≡ old
+TellsOf (Show capture form stream port) old new = Unit {0}
 TellsOf (Serve source address connections reverse) old new = Unit {0}
 TellsOf (ServeMany source address connections at_once patience) old new = Unit {0}
-TellsOf (Ask question address url seconds) old new = Unit {0}
+TellsOf (Ask question locales filter address url seconds form) old new = Unit {0}
+TellsOf (Check source address url seconds) old new = Unit {0}
 
 -- what a run has to do with: what the reader has left, and what the writers of what is printed and of what is told held before and hold then
 pub record Streams : Type 0 where
@@ -69,30 +72,33 @@ IsDone words s status = Done words s status ⊎ (ShowsText words s.printed s.pri
 -- the command has settings, which are refused with this fault
 abbrev pub RefusesSettingsOf : Command → SettingsFault → Type 0
 RefusesSettingsOf (Answer source reverse) fault = RefusesSource source fault
-RefusesSettingsOf (Value kind bytes) fault = ⊥
-RefusesSettingsOf (Show capture) fault = ⊥
+RefusesSettingsOf (Value kind bytes form) fault = ⊥
+RefusesSettingsOf (Show capture form stream port) fault = ⊥
 RefusesSettingsOf (Serve source address connections reverse) fault = RefusesSource source fault
 RefusesSettingsOf (ServeMany source address connections at_once patience) fault = RefusesSource source fault
-RefusesSettingsOf (Ask question address url seconds) fault = ⊥
+RefusesSettingsOf (Ask question locales filter address url seconds form) fault = ⊥
+RefusesSettingsOf (Check source address url seconds) fault = RefusesSource source fault
 
 -- the command is one over links
 abbrev pub IsOverLinks : Command → Type 0
 IsOverLinks (Answer source reverse) = ⊥
-IsOverLinks (Value kind bytes) = ⊥
-IsOverLinks (Show capture) = ⊥
+IsOverLinks (Value kind bytes form) = ⊥
+IsOverLinks (Show capture form stream port) = ⊥
 IsOverLinks (Serve source address connections reverse) = Unit {0}
 IsOverLinks (ServeMany source address connections at_once patience) = Unit {0}
-IsOverLinks (Ask question address url seconds) = Unit {0}
+IsOverLinks (Ask question locales filter address url seconds form) = Unit {0}
+IsOverLinks (Check source address url seconds) = Unit {0}
 
 -- the command reads its input
 abbrev pub ReadsInput : Command → Type 0
 ReadsInput (Answer source reverse) = Unit {0}
-ReadsInput (Value kind bytes) = ⊥
-ReadsInput (Show captures.Input) = Unit {0}
-ReadsInput (Show (captures.File path)) = ⊥
+ReadsInput (Value kind bytes form) = ⊥
+ReadsInput (Show captures.Input form stream port) = Unit {0}
+ReadsInput (Show (captures.File path) form stream port) = ⊥
 ReadsInput (Serve source address connections reverse) = ⊥
 ReadsInput (ServeMany source address connections at_once patience) = ⊥
-ReadsInput (Ask question address url seconds) = ⊥
+ReadsInput (Ask question locales filter address url seconds form) = ⊥
+ReadsInput (Check source address url seconds) = ⊥
 
 -- the input stays as it was, or the words ask for a command that reads it
 abbrev pub LeavesInput : List Text → Option (List ℕ) → Option (List ℕ) → Type 0

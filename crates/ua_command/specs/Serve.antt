@@ -5,7 +5,7 @@ use Rattle.ua_conn.specs.declared.server.greeting.ReverseFault.{ReverseFault}
 use Rattle.ua_command.specs.Reverse.{CannotOpen}
 use Rattle.ua_command.specs.Settings.{IsSettings}
 use Rattle.ua_command.specs.Stop.{IsSettingsStop}
-use Rattle.ua_command.specs.declared.settings.Source.{Source}
+use Rattle.ua_words.specs.declared.source.Source.{Source}
 use Rattle.ua_command.specs.declared.stop.Stop.{Stop}
 use Rattle.ua_command.specs.declared.stop.Stop.TheVariants.{Words, Settings, Line, Reverse, File, Link, NoMemory}
 

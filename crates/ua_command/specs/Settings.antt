@@ -6,8 +6,8 @@ use Rattle.ua_disco.specs.Settings.{default_text}
 use Rattle.ua_disco.specs.Tables.{settings_of}
 use Rattle.ua_disco.specs.declared.fault.SettingsFault.{SettingsFault}
 use Rattle.ua_disco.specs.declared.fault.SettingsFault.TheVariants.{NotToml, Missing, WrongKind, BadValue, UnknownKey, NoMemory}
-use Rattle.ua_command.specs.declared.settings.Source.{Source}
-use Rattle.ua_command.specs.declared.settings.Source.TheVariants.{Default, File}
+use Rattle.ua_words.specs.declared.source.Source.{Source}
+use Rattle.ua_words.specs.declared.source.Source.TheVariants.{Default, File}
 
 -- The text of a source: that of `default`, or what the file gave.
 abbrev pub IsText : Source → List ℕ → Type 0

@@ -1,10 +1,14 @@
 -- What the command `show` reads and prints, and its exit status.
-use Rattle.std.specs.Prelude.{◌≡◌, ℕ, List, Option}
+use Rattle.std.specs.Prelude.{◌≡◌, ◌⊎◌, ◌≤◌, ◌++◌, true, ℕ, List, Option}
 use Rattle.std.specs.Io.KnownBytes.{Appends}
+use Rattle.ua_capture.specs.Beginning.{is_capture}
 use Rattle.ua_command.specs.Answer.{IsInput}
-use Rattle.ua_command.specs.Capture.{shown}
-use Rattle.ua_command.specs.declared.show.Capture.{Capture}
-use Rattle.ua_command.specs.declared.show.Capture.TheVariants.{Input, File}
+use Rattle.ua_command.specs.Printed.{PrintsSome}
+use Rattle.ua_print.specs.Capture.{shown}
+use Rattle.ua_words.specs.declared.form.Form.{Form}
+use Rattle.ua_words.specs.declared.form.Form.TheVariants.{Lines, Whole, Json}
+use Rattle.ua_words.specs.declared.capture.Capture.{Capture}
+use Rattle.ua_words.specs.declared.capture.Capture.TheVariants.{Input, File}
 
 -- The bytes of a capture: those that the reader gave, or what the file gave.
 abbrev pub IsCapture : Capture → Option (List ℕ) → List ℕ → Type 0
@@ -21,5 +25,32 @@ pub record ShowsBytes (bytes : List ℕ) (old new : Option (List ℕ)) (status :
   pub printed : Appends old new (shown bytes).text
   pub status_is : status ≡ (shown bytes).status
 
-abbrev pub ShowsCapture : Capture → Option (List ℕ) → Option (List ℕ) → Option (List ℕ) → ℕ → Type 0
-ShowsCapture capture left old new status = (bytes : List ℕ) × IsCapture capture left bytes × ShowsBytes bytes old new status
+-- in JSON some text does, which is not said here, and the status is 0 or 1
+pub record ShowsJson (old new : Option (List ℕ)) (status : ℕ) : Type 0 where
+  pub printed : PrintsSome old new
+  pub status_is : status ≤ 1
+
+abbrev pub ShowsIn : Form → List ℕ → Option (List ℕ) → Option (List ℕ) → ℕ → Type 0
+ShowsIn Lines bytes old new status = ShowsBytes bytes old new status
+ShowsIn Whole bytes old new status = ShowsBytes bytes old new status
+ShowsIn Json bytes old new status = ShowsJson old new status
+
+-- a file of packets ends with 0 or 1, or with 3 or 4 where a read or a write failed or memory ran out in its midst
+abbrev pub IsTraceStatus : ℕ → Type 0
+IsTraceStatus status = (status ≡ 0) ⊎ (status ≡ 1) ⊎ (status ≡ 3) ⊎ (status ≡ 4)
+
+-- the bytes begin as a file of packets; what is printed of one is not said here
+pub record ShowsPackets (bytes : List ℕ) (status : ℕ) : Type 0 where
+  pub front : List ℕ
+  pub rest : List ℕ
+  pub whole : bytes ≡ front ++ rest
+  pub packets : is_capture front ≡ true
+  pub status_is : IsTraceStatus status
+
+-- what the bytes that a reader gave come to, in a form
+abbrev pub ShowsFrom : Form → Option (List ℕ) → Option (List ℕ) → Option (List ℕ) → ℕ → Type 0
+ShowsFrom form left old new status = (bytes : List ℕ) × IsInput left bytes × (ShowsIn form bytes old new status ⊎ ShowsPackets bytes status)
+
+-- the same of the bytes of a capture
+abbrev pub ShowsCapture : Form → Capture → Option (List ℕ) → Option (List ℕ) → Option (List ℕ) → ℕ → Type 0
+ShowsCapture form capture left old new status = (bytes : List ℕ) × IsCapture capture left bytes × (ShowsIn form bytes old new status ⊎ ShowsPackets bytes status)

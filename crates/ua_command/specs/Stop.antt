@@ -6,8 +6,8 @@ use Rattle.ua_command.specs.Reverse.{reverse_number, CannotOpen}
 use Rattle.ua_command.specs.Script.{script_in}
 use Rattle.ua_disco.specs.Tables.{settings_of}
 use Rattle.ua_command.specs.Settings.{IsSettings, IsFaultOf, RefusesSource}
-use Rattle.ua_command.specs.declared.settings.Source.{Source}
-use Rattle.ua_command.specs.declared.settings.Source.TheVariants.{Default}
+use Rattle.ua_words.specs.declared.source.Source.{Source}
+use Rattle.ua_words.specs.declared.source.Source.TheVariants.{Default}
 use Rattle.ua_disco.specs.Configuration.{Configuration}
 use Rattle.ua_disco.specs.declared.fault.SettingsFault.{SettingsFault}
 use Rattle.ua_disco.specs.declared.fault.SettingsFault.TheVariants as settings

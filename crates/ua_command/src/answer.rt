@@ -12,9 +12,8 @@ ghost use Rattle.ua_command.specs.Stop.{IsFileStop, IsInputStop, IsAnsweringStop
 
 use crate::input::read_whole;
 use crate::script::{TimedPiece, script_of};
-use crate::settings::{Source, settings_in};
+use crate::settings::settings_in;
 use crate::stop::{Stop, print_bytes};
-use crate::text::Code;
 use std::alloc::{AllocError, Global};
 use std::fmt;
 use std::io::{Read, Write};
@@ -22,7 +21,9 @@ use std::rt::Files;
 use ua_conn::{End, ReverseFault, reply_all, reply_all_reverse};
 use ua_disco::Settings;
 use ua_hex::encode_onto;
+use ua_print::Code;
 use ua_value::NoMemory;
+use ua_words::Source;
 
 /// The id of the channel that a connection of the command has.
 const CHANNEL: u32 = 1;

@@ -1,62 +1,32 @@
 //! The command `ask`: asks a server over TCP for the servers that it knows, or for its endpoints.
 
-ghost use Rattle.std.specs.Prelude.{◌≡◌, ◌⊎◌, ◌<◌, ◌≤◌, ◌-◌, ◌^◌, length, None, Some, IfOk, IfErr, IfSome, MatchOption};
+ghost use Rattle.std.specs.Prelude.{◌≡◌, ◌⊎◌, ◌<◌, ◌≤◌, ◌-◌, ◌^◌, length, None, IfOk, IfErr, IfSome};
 ghost use Rattle.ua_command.specs.Ask.{IsAskStatus, IsReachStop, IsTalkStop};
-ghost use Rattle.ua_command.specs.Command.{AreQuestionNames, name_of_question};
-ghost use Rattle.ua_command.specs.declared.ask.Question.{Question};
 
-mod lines;
-mod reaching;
+pub mod inquiry;
+pub mod lines;
+pub mod reaching;
 
+use crate::ask::inquiry::{Inquiry, request_of, text_of};
 use crate::ask::lines::{Outcome, lines_of};
 use crate::ask::reaching::{ask_at, ask_caller};
 use crate::run::told;
 use crate::stop::{Stop, print};
 use crate::why::Why;
-use std::alloc::{AllocError, Global};
+use std::alloc::Global;
 use std::io::Write;
 use std::net::Net;
 use std::rt::Clock as HostClock;
 use std::time::Duration;
 use ua_conn::{Answer, AnswerResult, AskFault, Client, ClientConfig, ClientFault};
 use ua_link::{ClientTurn, Clock, Link, pump_client, send_output};
-use ua_service::{FindServersRequest, GetEndpointsRequest, Request, request_header};
 use ua_socket::{Deadline, Listener, connect};
 use ua_value::plumbing::let_go;
-use ua_value::{Array, DateTime, NoMemory, StatusCode, UaString};
-
-/// What can be asked for.
-#[derive(Clone, Copy, Debug, PartialEq, Eq)]
-pub enum Question {
-    /// The servers that are known (OPC 10000-4, 5.5.2).
-    Find,
-    /// The endpoints of the server (OPC 10000-4, 5.5.4).
-    Endpoints,
-}
-
-/// The names of what can be asked for.
-pub fn question_names<'a>() -> &'a [&'a str]
-    ensures { AreQuestionNames result }
-{
-    &["find", "endpoints"]
-}
-
-/// What has this name, letter for letter, or none.
-pub fn question_of(text: &str) -> Option<Question>
-    ensures { MatchOption result ((question : Question) → name_of_question question ≡ text.now → ⊥) (λ question. name_of_question question ≡ text.now) }
-{
-    match text {
-        "find" => Some(Question::Find),
-        "endpoints" => Some(Question::Endpoints),
-        _ => None,
-    }
-}
+use ua_value::{NoMemory, StatusCode};
+use ua_words::{Form, Question};
 
 /// The most reads until the answer.
 const MOST_READS: u32 = 4096;
-
-/// The handle of the request, which is its request id as well.
-const HANDLE: u32 = 2;
 
 /// The bytes of a part of the request, which fits into the shortest frame that a server may take.
 const PART_LIMIT: u32 = 8168;
@@ -69,16 +39,6 @@ const CONFIG: ClientConfig = ClientConfig {
     lifetime: 3_600_000,
 };
 
-/// The url as a text of a message.
-fn text_of(alloc: Global, url: &str) -> Result<UaString, NoMemory>
-    ensures { IfOk result (λ text. text ≡ Some url.now) }
-{
-    match UaString::new(alloc, url) {
-        Ok(text) => Ok(text),
-        Err(_) => Err(AllocError),
-    }
-}
-
 /// A client that greets the server by this url, or without one waits until the server says by which.
 fn client_of(alloc: Global, url: Option<&str>) -> Result<Client, NoMemory>
     requires { IfSome url (λ url. length url.now ≤ 4095) }
@@ -90,39 +50,6 @@ fn client_of(alloc: Global, url: Option<&str>) -> Result<Client, NoMemory>
         }
         None => Client::new_reverse(alloc, CONFIG, 1),
     }
-}
-
-/// The url that a request names, which is null where there is none.
-fn named_url(alloc: Global, url: Option<&str>) -> Result<UaString, NoMemory> {
-    match url {
-        Some(url) => text_of(alloc, url),
-        None => Ok(UaString::null()),
-    }
-}
-
-/// The request: no locales, and all that there is.
-fn request_of(
-    alloc: Global,
-    now: i64,
-    question: Question,
-    url: Option<&str>,
-) -> Result<Request, NoMemory> {
-    let endpoint_url = named_url(alloc, url)?;
-    let header = request_header(DateTime(now), HANDLE);
-    Ok(match question {
-        Question::Find => Request::FindServers(FindServersRequest {
-            header,
-            endpoint_url,
-            locale_ids: Array::null(),
-            server_uris: Array::null(),
-        }),
-        Question::Endpoints => Request::GetEndpoints(GetEndpointsRequest {
-            header,
-            endpoint_url,
-            locale_ids: Array::null(),
-            profile_uris: Array::null(),
-        }),
-    })
 }
 
 /// That the channel is not open yet, or else why the question is refused.
@@ -138,10 +65,10 @@ fn is_asked(
     alloc: Global,
     client: &mut Client,
     now: i64,
-    question: Question,
+    inquiry: &Inquiry,
     url: Option<&str>,
 ) -> Result<bool, AskFault> {
-    let request = request_of(alloc, now, question, url)?;
+    let request = request_of(alloc, now, inquiry, url)?;
     match client.ask(now, request, PART_LIMIT) {
         Ok(_) => Ok(true),
         Err((fault, request)) => {
@@ -235,7 +162,7 @@ fn talk<L: Link, C: Clock>(
     client: &mut Client,
     link: &mut L,
     clock: &mut C,
-    question: Question,
+    inquiry: &Inquiry,
     url: Option<&str>,
 ) -> Result<Outcome, Stop>
     requires { L.fault_count link.old < 2 ^ 64 - 1 }
@@ -249,7 +176,7 @@ fn talk<L: Link, C: Clock>(
             Err(stop) => return Err(stop),
         }
         if !asked {
-            match is_asked(alloc, client, clock.now(), question, url) {
+            match is_asked(alloc, client, clock.now(), inquiry, url) {
                 Ok(is) => asked = is,
                 Err(fault) => return of_refusal(fault),
             }
@@ -259,11 +186,11 @@ fn talk<L: Link, C: Clock>(
 }
 
 /// Talks with the server as a new client.
-fn talk_anew<L: Link, C: Clock>(
+pub fn talk_anew<L: Link, C: Clock>(
     alloc: Global,
     link: &mut L,
     clock: &mut C,
-    question: Question,
+    inquiry: &Inquiry,
     url: Option<&str>,
 ) -> Result<Outcome, Stop>
     requires url { IfSome url (λ url. length url.now ≤ 4095) }
@@ -273,7 +200,7 @@ fn talk_anew<L: Link, C: Clock>(
     let Ok(mut client) = client_of(alloc, url) else {
         return Err(Stop::NoMemory);
     };
-    let came = talk(alloc, &mut client, link, clock, question, url);
+    let came = talk(alloc, &mut client, link, clock, inquiry, url);
     let_go(client);
     came
 }
@@ -297,6 +224,7 @@ fn number_of(fault: AskFault) -> u8 {
 fn tell_outcome<O: Write, E: Write>(
     alloc: Global,
     outcome: &Outcome,
+    form: Form,
     output: &mut O,
     errors: &mut E,
 ) -> Result<u8, Stop>
@@ -308,7 +236,7 @@ fn tell_outcome<O: Write, E: Write>(
         let _ = writeln!(errors, "not asked {number}");
         return Ok(1);
     }
-    let Ok(text) = lines_of(alloc, outcome) else {
+    let Ok(text) = lines_of(alloc, outcome, form) else {
         return Err(Stop::NoMemory);
     };
     print(output, text.as_str())?;
@@ -319,15 +247,16 @@ fn tell_outcome<O: Write, E: Write>(
 }
 
 /// Tells what came of the question, and gives the exit status, also where that can't be printed.
-fn status_of<O: Write, E: Write>(
+pub fn status_of<O: Write, E: Write>(
     alloc: Global,
     outcome: &Outcome,
+    form: Form,
     output: &mut O,
     errors: &mut E,
 ) -> u8
     ensures { IsAskStatus result }
 {
-    match tell_outcome(alloc, outcome, output, errors) {
+    match tell_outcome(alloc, outcome, form, output, errors) {
         Ok(status) => status,
         Err(stop) => told(&stop, errors),
     }
@@ -335,7 +264,7 @@ fn status_of<O: Write, E: Write>(
 
 /// Asks a server over a link, which the client calls by the url of at most 4095 bytes: opens a channel, asks, and closes
 /// the channel after the answer. Without a url the client waits for the server's ReverseHello, calls it by the url that
-/// this says, and names none in its request. The answer is printed.
+/// this says, and names none in its request. The answer is printed in the lines that are always there.
 ///
 /// The result is the exit status: 0 for an answer; 1 for a fault, an abort, an error of the server or a frame that the
 /// client refuses, which is printed, and where the server takes no such request, which is told on `errors`; 3 where the
@@ -354,41 +283,39 @@ pub fn ask_over<L: Link, C: Clock, O: Write, E: Write>(
     requires countable { L.fault_count link.old < 2 ^ 64 - 1 }
     ensures { IsAskStatus result }
 {
-    let why = &mut Why::Unknown;
-    ask_and_say(alloc, link, clock, question, url, output, errors, why)
+    let inquiry = Inquiry::plain(question);
+    ask_as(alloc, link, clock, &inquiry, url, output, errors)
 }
 
-/// What is known of a status that came in the place of an answer.
-fn why_of(outcome: &Outcome) -> Why {
-    match outcome.status() {
-        Some(status) => Why::Status(StatusCode(status)),
-        None => Why::Unknown,
-    }
-}
-
-/// Asks a server over a link in the same way, and says in `why` which status came in the place of an answer.
-fn ask_and_say<L: Link, C: Clock, O: Write, E: Write>(
+/// Asks a server over a link in the same way, with the locales, the filter and the form of an inquiry.
+pub fn ask_as<L: Link, C: Clock, O: Write, E: Write>(
     alloc: Global,
     link: &mut L,
     clock: &mut C,
-    question: Question,
+    inquiry: &Inquiry,
     url: Option<&str>,
     output: &mut O,
     errors: &mut E,
-    why: &mut Why,
 ) -> u8
     requires url { IfSome url (λ url. length url.now ≤ 4095) }
     requires countable { L.fault_count link.old < 2 ^ 64 - 1 }
     ensures { IsAskStatus result }
 {
-    match talk_anew(alloc, link, clock, question, url) {
+    match talk_anew(alloc, link, clock, inquiry, url) {
         Ok(outcome) => {
-            *why = why_of(&outcome);
-            let status = status_of(alloc, &outcome, output, errors);
+            let status = status_of(alloc, &outcome, inquiry.form, output, errors);
             let_go(outcome);
             status
         }
         Err(stop) => told(&stop, errors),
+    }
+}
+
+/// What is known of a status that came in the place of an answer.
+pub fn why_of(outcome: &Outcome) -> Why {
+    match outcome.status() {
+        Some(status) => Why::Status(StatusCode(status)),
+        None => Why::Unknown,
     }
 }
 
@@ -400,7 +327,7 @@ fn ask_and_say<L: Link, C: Clock, O: Write, E: Write>(
 /// is printed then. What is known of a link that failed stands in `why`.
 pub fn ask<R, O, E>(
     rt: &R,
-    question: Question,
+    inquiry: &Inquiry,
     address: &str,
     url: Option<&str>,
     seconds: u32,
@@ -423,13 +350,13 @@ where
         Some(url) => {
             let socket = connect(rt, rt.alloc(), address, &mut deadline);
             ask_at(
-                rt, socket, deadline, seconds, question, url, output, errors, why,
+                rt, socket, deadline, seconds, inquiry, url, output, errors, why,
             )
         }
         None => {
             let listener = Listener::bind(rt, rt.alloc(), address);
             ask_caller(
-                rt, listener, deadline, seconds, question, output, errors, why,
+                rt, listener, deadline, seconds, inquiry, output, errors, why,
             )
         }
     }

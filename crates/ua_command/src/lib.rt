@@ -3,13 +3,10 @@
 
 mod answer;
 mod ask;
-mod capture;
-mod command;
+mod begun;
+mod check;
 mod file;
-mod frame_line;
 mod input;
-mod parts;
-mod row;
 pub mod run;
 mod saying;
 mod script;
@@ -18,17 +15,15 @@ mod serve;
 mod settings;
 mod show;
 mod stop;
-mod text;
-mod type_names;
 mod value;
 mod why;
 
-pub use ask::{Question, ask_over};
-pub use command::{Command, WordsFault, command_of};
+pub use ask::inquiry::Inquiry;
+pub use ask::{ask_as, ask_over};
+pub use check::check_over;
 pub use saying::say_why;
 pub use serve::many::{Crowd, serve_sockets};
 pub use serve::{serve_on, serve_to, status_with};
-pub use settings::Source;
-pub use show::Capture;
 pub use stop::Stop;
+pub use ua_words::{Capture, Command, Form, Question, Source, WordsFault, command_of};
 pub use why::{Broken, Why};

@@ -7,7 +7,8 @@ ghost use Rattle.ua_command.specs.Stop.{status_of, stop_text, IsQuiet};
 
 use crate::answer::answer;
 use crate::ask::ask;
-use crate::command::{Command, WordsFault, command_of};
+use crate::ask::inquiry::Inquiry;
+use crate::check::{Machine, check};
 use crate::serve::many::{Crowd, serve_many};
 use crate::serve::serve;
 use crate::show::show;
@@ -18,10 +19,12 @@ use std::io;
 use std::io::{Read, Write};
 use std::net::Net;
 use std::rt::{Clock, Files};
+use ua_trace::Choice;
+use ua_words::{Command, Form, WordsFault, command_of};
 
 /// Runs the command that the words are, which are those after the program's name, and gives the
 /// exit status: 0 done, 1 settings or input refused, settings by which no connection can be opened, a capture with a
-/// frame that is refused or cut, or a question that got no answer, 2 words refused, 3 a failed read or write, or a link
+/// frame that is refused or cut, a question that got no answer, or a server that offers other than settings say, 2 words refused, 3 a failed read or write, or a link
 /// that failed, 4 want of memory. Help and the version are printed on `output`, with status 0. What stopped the command
 /// is told on `errors`, where a failed write is passed over; `serve` tells there at which address it listens, and so does
 /// `ask` where it does. The input is read by `answer` alone, and by `show` of standard input.
@@ -124,8 +127,27 @@ where
     };
     match command {
         Command::Answer { source, reverse } => answer(rt, &source, reverse, input, output),
-        Command::Value { kind, bytes } => value(rt.alloc(), kind, bytes.as_slice(), output),
-        Command::Show(capture) => show(rt, &capture, input, output),
+        Command::Value { kind, bytes, form } => {
+            value(rt.alloc(), kind, bytes.as_slice(), form, output)
+        }
+        Command::Show {
+            capture,
+            form,
+            stream,
+            port,
+        } => show(
+            rt,
+            &capture,
+            Choice {
+                stream,
+                port,
+                json: form == Form::Json,
+            },
+            form,
+            input,
+            output,
+            errors,
+        ),
         Command::Serve {
             source,
             address,
@@ -162,15 +184,40 @@ where
         ),
         Command::Ask {
             question,
+            locales,
+            filter,
             address,
             url,
             seconds,
+            form,
         } => ask(
             rt,
-            question,
+            &Inquiry {
+                question,
+                locales,
+                filter,
+                form,
+            },
             address.as_str(),
             url.as_deref(),
             seconds,
+            output,
+            errors,
+            why,
+        ),
+        Command::Check {
+            source,
+            address,
+            url,
+            seconds,
+        } => check(
+            rt,
+            &source,
+            Machine {
+                address: address.as_str(),
+                url: url.as_str(),
+                seconds,
+            },
             output,
             errors,
             why,

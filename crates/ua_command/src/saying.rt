@@ -1,20 +1,19 @@
 //! The second line of a fault, in words for people.
 
-use crate::command::{Command, command_of};
-use crate::settings::Source;
-use crate::show::Capture;
 use crate::why::Why;
 use std::fs::File;
 use std::io::Write;
 use std::rt::Files;
 use ua_value::plumbing::let_go;
+use ua_words::{Capture, Command, Source, command_of};
 
 /// The address that a command names, or else nothing.
 fn address_of(command: &Command) -> Option<&str> {
     match command {
         Command::Serve { address, .. }
         | Command::ServeMany { address, .. }
-        | Command::Ask { address, .. } => Some(address.as_str()),
+        | Command::Ask { address, .. }
+        | Command::Check { address, .. } => Some(address.as_str()),
         _ => None,
     }
 }
@@ -34,7 +33,14 @@ fn path_of(command: &Command) -> Option<&str> {
             source: Source::File(path),
             ..
         } => Some(path.as_str()),
-        Command::Show(Capture::File(path)) => Some(path.as_str()),
+        Command::Check {
+            source: Source::File(path),
+            ..
+        } => Some(path.as_str()),
+        Command::Show {
+            capture: Capture::File(path),
+            ..
+        } => Some(path.as_str()),
         _ => None,
     }
 }

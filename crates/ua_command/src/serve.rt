@@ -1,13 +1,13 @@
 //! The command `serve`: serves connections over TCP, one after the other.
 
-ghost use Rattle.std.specs.Prelude.{◌≡◌, ◌<◌, true, IsOk, IfOk, IfErr, MatchResult};
+ghost use Rattle.std.specs.Prelude.{◌≡◌, ◌<◌, true, Err, IsOk, IfOk, IfErr, MatchResult};
 ghost use Rattle.ua_command.specs.Serve.{IsServeStatus, IsServedStatus, IsServeStop, IsServingStop, Serves};
 
 pub mod many;
 
 use crate::answer::Ending;
 use crate::run::told;
-use crate::settings::{Source, settings_in};
+use crate::settings::settings_in;
 use crate::stop::{Stop, print};
 use crate::why::Why;
 use std::io::{Read, Write};
@@ -19,6 +19,7 @@ use ua_disco::Settings;
 use ua_link::{MachineClock, Report, TcpLink, serve_connection, serve_connection_reverse};
 use ua_socket::Reason;
 use ua_value::plumbing::let_go;
+use ua_words::Source;
 
 /// The most reads of one connection.
 const TURNS: u32 = 65536;
@@ -64,7 +65,8 @@ fn serve_stream<R: Clock + AllocGlobal, S: Read + Write + Drop>(
     stream: S,
 ) -> Result<Served, Stop>
     requires { 0 < id }
-    ensures { IfErr result (IsServingStop reverse settings.now) }
+    ensures stop { IfErr result (IsServingStop reverse settings.now) }
+    ensures linked { IfErr result (λ stop. stop ≡ Stop.Link → ⊥) }
 {
     let mut link = TcpLink::new(stream);
     let mut clock = MachineClock::new(rt);
@@ -131,6 +133,37 @@ pub fn status_with(status: u8, end: End) -> u8
     }
 }
 
+/// Serves the connection over a stream, prints its line, and gives the exit status with it. Where there is no stream, and
+/// nowhere else, the stop is a link.
+fn serve_next<R, S, O>(
+    rt: &R,
+    stream: io::Result<S>,
+    settings: &Settings,
+    reverse: bool,
+    id: u32,
+    status: u8,
+    output: &mut O,
+) -> Result<u8, Stop>
+where
+    R: Clock + AllocGlobal,
+    S: Read + Write + Drop,
+    O: Write,
+    requires id { 0 < id }
+    requires status { IsServeStatus status }
+    ensures status { IfOk result IsServeStatus }
+    ensures stop { IfErr result (IsServingStop reverse settings.now) }
+    ensures linked { MatchResult stream (λ _. result ≡ Err Stop.Link → ⊥) (λ _. result ≡ Err Stop.Link) }
+{
+    match stream {
+        Ok(stream) => {
+            let served = serve_stream(rt, settings, reverse, id, stream)?;
+            print_line(output, served)?;
+            Ok(status_with(status, served.end))
+        }
+        Err(_) => Err(Stop::Link),
+    }
+}
+
 /// What gives the streams of connections, one after the other.
 trait Streams {
     type Stream: Read + Write + Drop;
@@ -191,12 +224,8 @@ where
 {
     let mut status = 0;
     'connections: for before in 0..connections {
-        let Ok(stream) = streams.next() else {
-            return Err(Stop::Link);
-        };
-        let served = serve_stream(rt, settings, reverse, u32::from(before) + 1, stream)?;
-        status = status_with(status, served.end);
-        print_line(output, served)?;
+        let id = u32::from(before) + 1;
+        status = serve_next(rt, streams.next(), settings, reverse, id, status, output)?;
     }
     Ok(status)
 }

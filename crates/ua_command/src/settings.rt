@@ -10,15 +10,7 @@ use crate::stop::Stop;
 use std::alloc::Global;
 use std::rt::Files;
 use ua_disco::{DEFAULT, Settings};
-
-/// Where settings come from.
-#[derive(Debug, Drop)]
-pub enum Source {
-    /// The built-in settings.
-    Default,
-    /// The file at this path.
-    File(String),
-}
+use ua_words::Source;
 
 /// The settings that a text in TOML gives.
 fn settings_of(alloc: Global, text: &[u8]) -> Result<Settings, Stop>

@@ -1,20 +1,24 @@
 //! The command `value`: reads one value of a built-in type, and prints what it is.
 
-ghost use Rattle.std.specs.Prelude.{◌≡◌, ◌≤◌, ◌++◌, length, IfOk, IfErr, OnOk, string_bytes, Ok, Err};
+ghost use Rattle.std.specs.Prelude.{◌≡◌, ◌≤◌, ◌++◌, ℕ, List, length, IfOk, IfErr, OnOk, string_bytes, Ok, Err};
 ghost use Rattle.ua_value.specs.Format.{Reads, input_limit};
-ghost use Rattle.ua_command.specs.Printed.{value_lines, text_line, node_text, shape_of, two_lines, Prints, PrintsOnto, RefusesOnto};
+ghost use Rattle.ua_print.specs.Printed.{node_text};
+ghost use Rattle.ua_command.specs.Printed.{value_lines, text_line, shape_of, two_lines, Prints, PrintsOnto, RefusesOnto, PrintsMore, PrintsSome, PrintsIn, RefusesIn};
 ghost use Rattle.ua_command.specs.Stop.{IsFileStop, IsQuiet};
 ghost use Rattle.ua_kind.specs.declared.kind.Kind.TheVariants.{Guid as guid_type, NodeId as node_id_type};
 
 use crate::stop::{Stop, print};
-use crate::text::add_node;
-use std::alloc::Global;
+use std::alloc::{AllocError, Global};
 use std::io::Write;
+use ua_json::{add_refused_value, add_value};
+use ua_lines::add_value_of;
+use ua_print::add_node;
 use ua_value::{
     DateTime, DoubleBits, ExpandedNodeId, FloatBits, Guid, LocalizedText, NoMemory, NodeId,
     QualifiedName, ReadFault, StatusCode, UaBytes, UaString, Wire, XmlElement,
 };
 use ua_variant::{DataValue, DiagnosticInfo, ExtensionObject, Kind, Variant};
+use ua_words::Form;
 
 /// The most bytes of one input, which no machine holds.
 const MOST_BYTES: usize = 1 << 60;
@@ -128,18 +132,21 @@ fn lines_of(alloc: Global, kind: Kind, bytes: &[u8]) -> Result<String, ReadFault
     }
 }
 
-/// Prints the value that the bytes begin with, or `refused` where they begin with none, and gives
-/// the exit status: 0, or 1 for `refused`. Nothing is printed before all lines are made.
-pub fn value<O: Write>(alloc: Global, kind: Kind, bytes: &[u8], output: &mut O) -> Result<u8, Stop>
+/// Prints the lines of the value that the bytes begin with, or `refused` where they begin with none, and gives the exit
+/// status: 0, or 1 for `refused`.
+fn value_in_lines<O: Write>(
+    alloc: Global,
+    kind: Kind,
+    bytes: &[u8],
+    output: &mut O,
+) -> Result<u8, Stop>
+    requires { length bytes.now ≤ input_limit }
     ensures done { IfOk result (λ status. status ≡ 0 → PrintsOnto (shape_of kind) bytes.now (O.contents output.old) (O.contents output.new)) }
     ensures refused { IfOk result (λ status. status ≡ 1 → RefusesOnto (shape_of kind) bytes.now (O.contents output.old) (O.contents output.new)) }
     ensures status { IfOk result (λ status. status ≤ 1) }
     ensures err { IfErr result IsFileStop }
     ensures quiet { IfErr result (λ stop. IsQuiet stop (O.contents output.old) (O.contents output.new)) }
 {
-    if bytes.len() > MOST_BYTES {
-        return Err(Stop::NoMemory);
-    }
     match lines_of(alloc, kind, bytes) {
         Ok(text) => {
             print(output, text.as_str())?;
@@ -150,5 +157,101 @@ pub fn value<O: Write>(alloc: Global, kind: Kind, bytes: &[u8], output: &mut O) 
             Ok(1)
         }
         Err(ReadFault::NoMemory) => Err(Stop::NoMemory),
+    }
+}
+
+/// Adds the value itself behind its lines.
+fn add_value_itself(
+    alloc: Global,
+    kind: Kind,
+    bytes: &[u8],
+    lines: &mut String,
+) -> Result<(), NoMemory>
+    requires { length bytes.now ≤ input_limit }
+    ensures { OnOk result ((more : List ℕ) × (string_bytes lines.new ≡ string_bytes lines.old ++ more)) }
+{
+    let mut more = String::new(alloc);
+    if let Err(ReadFault::NoMemory) = add_value_of(alloc, &mut more, kind, bytes) {
+        return Err(AllocError);
+    }
+    lines.push_str(more.as_str())
+}
+
+/// Prints the lines of the value that the bytes begin with and the value itself behind them, or `refused`.
+fn value_whole<O: Write>(
+    alloc: Global,
+    kind: Kind,
+    bytes: &[u8],
+    output: &mut O,
+) -> Result<u8, Stop>
+    requires { length bytes.now ≤ input_limit }
+    ensures done { IfOk result (λ status. status ≡ 0 → PrintsMore (shape_of kind) bytes.now (O.contents output.old) (O.contents output.new)) }
+    ensures refused { IfOk result (λ status. status ≡ 1 → RefusesOnto (shape_of kind) bytes.now (O.contents output.old) (O.contents output.new)) }
+    ensures status { IfOk result (λ status. status ≤ 1) }
+    ensures err { IfErr result IsFileStop }
+    ensures quiet { IfErr result (λ stop. IsQuiet stop (O.contents output.old) (O.contents output.new)) }
+{
+    match lines_of(alloc, kind, bytes) {
+        Ok(mut lines) => {
+            add_value_itself(alloc, kind, bytes, &mut lines)?;
+            print(output, lines.as_str())?;
+            Ok(0)
+        }
+        Err(ReadFault::Refused) => {
+            print(output, "refused\n")?;
+            Ok(1)
+        }
+        Err(ReadFault::NoMemory) => Err(Stop::NoMemory),
+    }
+}
+
+/// Prints the value that the bytes begin with in JSON, or that they are refused.
+fn value_in_json<O: Write>(
+    alloc: Global,
+    kind: Kind,
+    bytes: &[u8],
+    output: &mut O,
+) -> Result<u8, Stop>
+    requires { length bytes.now ≤ input_limit }
+    ensures done { IfOk result (λ _. PrintsSome (O.contents output.old) (O.contents output.new)) }
+    ensures status { IfOk result (λ status. status ≤ 1) }
+    ensures err { IfErr result IsFileStop }
+    ensures quiet { IfErr result (λ stop. IsQuiet stop (O.contents output.old) (O.contents output.new)) }
+{
+    let mut text = String::new(alloc);
+    let status = match add_value(alloc, &mut text, kind, bytes) {
+        Ok(()) => 0,
+        Err(ReadFault::Refused) => {
+            add_refused_value(&mut text, kind, bytes.len())?;
+            1
+        }
+        Err(ReadFault::NoMemory) => return Err(Stop::NoMemory),
+    };
+    print(output, text.as_str())?;
+    Ok(status)
+}
+
+/// Prints in this form the value that the bytes begin with, or that they begin with none, and gives the exit status: 0,
+/// or 1 where they begin with none. Nothing is printed before all lines are made.
+pub fn value<O: Write>(
+    alloc: Global,
+    kind: Kind,
+    bytes: &[u8],
+    form: Form,
+    output: &mut O,
+) -> Result<u8, Stop>
+    ensures done { IfOk result (λ status. status ≡ 0 → PrintsIn form (shape_of kind) bytes.now (O.contents output.old) (O.contents output.new)) }
+    ensures refused { IfOk result (λ status. status ≡ 1 → RefusesIn form (shape_of kind) bytes.now (O.contents output.old) (O.contents output.new)) }
+    ensures status { IfOk result (λ status. status ≤ 1) }
+    ensures err { IfErr result IsFileStop }
+    ensures quiet { IfErr result (λ stop. IsQuiet stop (O.contents output.old) (O.contents output.new)) }
+{
+    if bytes.len() > MOST_BYTES {
+        return Err(Stop::NoMemory);
+    }
+    match form {
+        Form::Lines => value_in_lines(alloc, kind, bytes, output),
+        Form::Whole => value_whole(alloc, kind, bytes, output),
+        Form::Json => value_in_json(alloc, kind, bytes, output),
     }
 }

@@ -3,6 +3,7 @@
 use std::io::ErrorKind;
 use std::time::Duration;
 use std::{fmt, io};
+use ua_print::NamedCode;
 use ua_socket::Reason;
 use ua_value::StatusCode;
 
@@ -74,10 +75,11 @@ impl fmt::Display for Why {
             Why::Status(status) if status.0 == NO_OPC_UA => {
                 write!(
                     f,
-                    "{status}: what came is no OPC UA over TCP; does a web server listen there?"
+                    "{}: what came is no OPC UA over TCP; does a web server listen there?",
+                    NamedCode(status.0)
                 )
             }
-            Why::Status(status) => write!(f, "{status}"),
+            Why::Status(status) => write!(f, "{}", NamedCode(status.0)),
         }
     }
 }

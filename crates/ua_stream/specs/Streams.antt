@@ -68,6 +68,16 @@ pub record IsClearedAt (old : List Connection) (n : ℕ) (way : Way) (new : List
   pub untouched : side_of now (opposite way) ≡ side_of was (opposite way)
   pub ends : KeepsEnds was now
 
+-- no more bytes are taken of a way of the connection with this number, and all else stays
+pub record IsGivenUpAt (old : List Connection) (n : ℕ) (way : Way) (new : List Connection) : Type 0 where
+  pub was : Connection
+  pub now : Connection
+  pub before : slice_get old n ≡ Some was
+  pub after : new ≡ slice_set old n now
+  pub given_up : side_of now way ≡ record (side_of was way) { ready = []; parts = []; stopped = true }
+  pub untouched : side_of now (opposite way) ≡ side_of was (opposite way)
+  pub ends : KeepsEnds was now
+
 -- as many connections are followed as may be, and the segment would begin one more
 pub record IsFull (old : List Connection) (s : Parts) (new : List Connection) : Type 0 where
   pub opens : Opens old s

@@ -1,6 +1,6 @@
 //! The connection of two ends.
 
-ghost use Rattle.std.specs.Prelude.{◌≡◌, [], OnOk, IfSome, IfNone};
+ghost use Rattle.std.specs.Prelude.{◌≡◌, true, [], OnOk, IfSome, IfNone};
 ghost use Rattle.ua_stream.specs.declared.connection.Way.{Way};
 ghost use Rattle.ua_stream.specs.Connection.{first_of, IsWay, is_opening, opening_of, is_forth, is_known, begins_new, IsTaken, KeepsEnds, no_bytes, side_of, opposite};
 
@@ -172,6 +172,18 @@ impl Connection {
         match way {
             Way::Forth => self.forth.clear(),
             Way::Back => self.back.clear(),
+        }
+    }
+
+    /// Takes no more bytes of a way, and gives back its memory.
+    pub(crate) fn give_up(&mut self, way: Way)
+        ensures given_up { side_of self.new way ≡ record (side_of self.old way) { ready = []; parts = []; stopped = true } }
+        ensures untouched { side_of self.new (opposite way) ≡ side_of self.old (opposite way) }
+        ensures ends { KeepsEnds self.old self.new }
+    {
+        match way {
+            Way::Forth => self.forth.give_up(),
+            Way::Back => self.back.give_up(),
         }
     }
 }

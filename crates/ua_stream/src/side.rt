@@ -152,6 +152,16 @@ impl Side {
         self.stopped = true;
     }
 
+    /// Takes no more bytes, and gives back all memory.
+    pub(crate) fn give_up(&mut self)
+        ensures { self.new ≡ record self.old { ready = []; parts = []; stopped = true } }
+    {
+        self.stop();
+        let alloc = *self.ready.allocator();
+        self.ready = Vec::new(alloc);
+        self.parts = Vec::new(alloc);
+    }
+
     /// Adds bytes from a place on, which is not in front of the next in order.
     fn add_from(&mut self, alloc: Global, at: u64, bytes: &[u8]) -> Result<(), AllocError>
         requires live { self.old.stopped ≡ false }

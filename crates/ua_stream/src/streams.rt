@@ -3,7 +3,7 @@
 ghost use Rattle.std.specs.Prelude.{◌≡◌, ◌<◌, ◌≤◌, ◌==◌, [], length, IfSome, IfNone, IfOk, slice_get, OnOk, vec_len};
 ghost use Rattle.std.specs.Option.{option_copied};
 ghost use Rattle.ua_stream.specs.Shown.{connections_of};
-ghost use Rattle.ua_stream.specs.Streams.{IsLast, HasNone, GoesOn, Opens, IsPutAt, IsBegun, IsPut, IsFull, IsClearedAt};
+ghost use Rattle.ua_stream.specs.Streams.{IsLast, HasNone, GoesOn, Opens, IsPutAt, IsBegun, IsPut, IsFull, IsClearedAt, IsGivenUpAt};
 
 use crate::connection::{Connection, Way};
 use std::alloc::{AllocError, Global};
@@ -76,6 +76,14 @@ fn clear_at(connections: &mut Vec<Connection>, number: usize, way: Way)
     ensures { IsClearedAt connections.old.items number way connections.new.items }
 {
     connections[number].clear(way);
+}
+
+/// Takes no more bytes of one way of the connection with this number.
+fn give_up_at(connections: &mut Vec<Connection>, number: usize, way: Way)
+    requires { number < vec_len connections.old }
+    ensures { IsGivenUpAt connections.old.items number way connections.new.items }
+{
+    connections[number].give_up(way);
 }
 
 impl Streams {
@@ -160,6 +168,17 @@ impl Streams {
     {
         if number < self.connections.len() {
             clear_at(&mut self.connections, number, way);
+        }
+    }
+
+    /// Takes no more bytes of one way of a connection, as where there was no room, where there is one with this number:
+    /// the way is stopped, and its memory is given back. It is for ways that nobody reads.
+    pub fn give_up(&mut self, number: usize, way: Way)
+        ensures given_up { number < length (connections_of self.old) → IsGivenUpAt (connections_of self.old) number way (connections_of self.new) }
+        ensures none { length (connections_of self.old) ≤ number → connections_of self.new ≡ connections_of self.old }
+    {
+        if number < self.connections.len() {
+            give_up_at(&mut self.connections, number, way);
         }
     }
 }

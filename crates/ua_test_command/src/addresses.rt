@@ -49,9 +49,12 @@ fn asks(alloc: Global, words: &[&str], at: &str, by: Option<&str>, within: u32) 
         Ok(
             Command::Ask {
                 question: _,
+                locales: _,
+                filter: _,
                 address,
                 url,
                 seconds,
+                form: _,
             },
         ) => address.as_str() == at && url.as_deref() == by && seconds == within,
         _ => false,

@@ -32,6 +32,8 @@ fn tells_failed_reads_and_writes(rt: HostRuntime) {
     for room in [0, 1, 16] {
         expect_failed_write(&rt, &answer, room);
         expect_failed_write(&rt, &["value", "Boolean", "FF"], room);
+        expect_failed_write(&rt, &["value", "Boolean", "FF", "--show"], room);
+        expect_failed_write(&rt, &["value", "Boolean", "FF", "--json"], room);
         expect_failed_write(&rt, &["--version"], room);
     }
     assert!(rt; is_untold(&rt, &["answer", "default"], 1));
@@ -79,7 +81,10 @@ fn tells_failed_flushes(rt: HostRuntime) {
     assert!(rt; is_stopped_unflushed(&rt, &["answer", "default"]));
     assert!(rt; is_stopped_unflushed(&rt, &["value", "Boolean", "FF"]));
     assert!(rt; is_stopped_unflushed(&rt, &["value", "Boolean", ""]));
+    assert!(rt; is_stopped_unflushed(&rt, &["value", "Boolean", "FF", "--show"]));
+    assert!(rt; is_stopped_unflushed(&rt, &["value", "Boolean", "", "--json"]));
     assert!(rt; is_stopped_unflushed(&rt, &["show", "-"]));
+    assert!(rt; is_stopped_unflushed(&rt, &["show", "-", "--json"]));
     assert!(rt; is_stopped_unflushed(&rt, &["--help"]));
     assert!(rt; is_stopped_unflushed(&rt, &["--version"]));
 }

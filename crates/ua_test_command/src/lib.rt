@@ -13,7 +13,11 @@ mod asking;
 #[cfg(test)]
 mod blocks;
 #[cfg(test)]
+mod checks;
+#[cfg(test)]
 mod failures;
+#[cfg(test)]
+mod forms;
 #[cfg(test)]
 mod hex_digits;
 #[cfg(test)]
@@ -28,6 +32,8 @@ mod memory;
 mod moments;
 #[cfg(test)]
 mod outgoing;
+#[cfg(test)]
+mod packets;
 #[cfg(test)]
 mod parts;
 #[cfg(test)]

@@ -65,6 +65,28 @@ fn prints_a_guid_or_no_memory(rt: HostRuntime) {
 }
 
 #[test]
+fn shows_a_value_or_no_memory(rt: HostRuntime) {
+    let output = "used 4 of 4\ncanon 2a000000\nvalue 42\n";
+    let words = ["value", "Int32", "2A000000", "--show"];
+    assert!(rt; ends_so_or_no_memory(&rt, &words, "", 0, output, ""));
+}
+
+#[test]
+fn prints_a_value_in_json_or_no_memory(rt: HostRuntime) {
+    let output =
+        "{\"Type\":\"Int32\",\"Used\":4,\"Size\":4,\"Canonical\":\"2a000000\",\"Value\":42}\n";
+    let words = ["value", "Int32", "2A000000", "--json"];
+    assert!(rt; ends_so_or_no_memory(&rt, &words, "", 0, output, ""));
+}
+
+#[test]
+fn shows_frames_in_json_or_no_memory(rt: HostRuntime) {
+    let output =
+        "{\"Offset\":0,\"Refused\":{\"Code\":2155741184,\"Symbol\":\"BadTcpMessageTypeInvalid\"}}\n";
+    assert!(rt; ends_so_or_no_memory(&rt, &["show", "-", "--json"], "HTTP/1.1 400", 1, output, ""));
+}
+
+#[test]
 fn tells_an_absent_file_or_no_memory(rt: HostRuntime) {
     assert!(rt; ends_so_or_no_memory(&rt, &["answer", "absent.toml"], "", 3, "", "file\n"));
 }

@@ -109,9 +109,22 @@ fn shows_help_and_the_version(rt: HostRuntime) {
         &["answer", "--help"],
         "Usage: uadisc answer [OPTIONS] <SETTINGS>",
     );
-    expect_text(&rt, &["help", "value"], "Usage: uadisc value <TYPE> <HEX>");
+    expect_text(
+        &rt,
+        &["help", "value"],
+        "Usage: uadisc value [OPTIONS] <TYPE> <HEX>",
+    );
     expect_text(&rt, &["value", "-h"], "NodeId");
-    expect_text(&rt, &["show", "--help"], "Usage: uadisc show <FILE>");
+    expect_text(
+        &rt,
+        &["show", "--help"],
+        "Usage: uadisc show [OPTIONS] <FILE>",
+    );
+    expect_text(
+        &rt,
+        &["check", "--help"],
+        "Usage: uadisc check [OPTIONS] <SETTINGS> <ADDR> [URL]",
+    );
     expect_text(
         &rt,
         &["serve", "--help"],
@@ -124,6 +137,9 @@ fn shows_help_and_the_version(rt: HostRuntime) {
     );
     expect_text(&rt, &["ask", "-h"], "find, endpoints");
     for command in ["answer", "serve", "ask"] {
-        expect_text(&rt, &[command, "--help"], "      --reverse  ");
+        expect_text(&rt, &[command, "--help"], "      --reverse");
+    }
+    for command in ["value", "show", "ask"] {
+        expect_text(&rt, &[command, "--help"], "      --json");
     }
 }

@@ -1,9 +1,11 @@
 //! The question over a stream: of a connection that was made, or of one that comes to a listener.
 
 ghost use Rattle.std.specs.Prelude.{◌≡◌, ◌≤◌, length, IsOk, IfOk, IfErr, IfSome, MatchResult};
-ghost use Rattle.ua_command.specs.Ask.{IsAskStatus, IsReachStop, stop_of_reason};
+ghost use Rattle.ua_command.specs.Ask.{IsAskStatus, IsReachStop, IsTalkStop, stop_of_reason};
 
-use crate::ask::{Question, ask_and_say};
+use crate::ask::inquiry::Inquiry;
+use crate::ask::lines::Outcome;
+use crate::ask::{status_of, talk_anew, why_of as why_of_outcome};
 use crate::run::told;
 use crate::stop::Stop;
 use crate::why::{Broken, Why};
@@ -16,7 +18,7 @@ use ua_socket::{Deadline, Listener, Reason, Stream, TimedLink, Timer};
 use ua_value::plumbing::let_go;
 
 /// What a reason is to the command.
-fn stop_of(reason: Reason) -> Stop
+pub fn stop_of(reason: Reason) -> Stop
     ensures { result ≡ stop_of_reason reason }
 {
     match reason {
@@ -37,14 +39,46 @@ fn why_of<S, T>(link: &TimedLink<S, T>, why: Why) -> Why {
     })
 }
 
-/// Asks the server at the other end of a stream within so many seconds, of which the timer says what is left; the stream
-/// is closed then.
+/// What is known of an answer that did not come.
+fn why_none(came: &Result<Outcome, Stop>, why: Why) -> Why {
+    match came {
+        Ok(outcome) => why_of_outcome(outcome),
+        Err(_) => why,
+    }
+}
+
+/// Talks with the server at the other end of a stream within so many seconds, of which the timer says what is left; the
+/// stream is closed then. What is known of a link that failed, or of a status in the place of an answer, stands in `why`.
+pub fn talk_through<R, S, T>(
+    rt: &R,
+    stream: S,
+    timer: T,
+    seconds: u32,
+    inquiry: &Inquiry,
+    url: Option<&str>,
+    why: &mut Why,
+) -> Result<Outcome, Stop>
+where
+    R: HostClock + AllocGlobal,
+    S: Stream + Drop,
+    T: Timer + Drop,
+    requires { IfSome url (λ url. length url.now ≤ 4095) }
+    ensures { IfErr result IsTalkStop }
+{
+    let mut link = TimedLink::new(stream, timer, Duration::from_secs(u64::from(seconds)));
+    let mut clock = MachineClock::new(rt);
+    let came = talk_anew(rt.alloc(), &mut link, &mut clock, inquiry, url);
+    *why = why_of(&link, why_none(&came, *why));
+    came
+}
+
+/// Asks the server at the other end of a stream in the same way, and prints what came of it.
 fn ask_stream<R, S, T, O, E>(
     rt: &R,
     stream: S,
     timer: T,
     seconds: u32,
-    question: Question,
+    inquiry: &Inquiry,
     url: Option<&str>,
     output: &mut O,
     errors: &mut E,
@@ -59,20 +93,14 @@ where
     requires { IfSome url (λ url. length url.now ≤ 4095) }
     ensures { IsAskStatus result }
 {
-    let mut link = TimedLink::new(stream, timer, Duration::from_secs(u64::from(seconds)));
-    let mut clock = MachineClock::new(rt);
-    let status = ask_and_say(
-        rt.alloc(),
-        &mut link,
-        &mut clock,
-        question,
-        url,
-        output,
-        errors,
-        why,
-    );
-    *why = why_of(&link, *why);
-    status
+    match talk_through(rt, stream, timer, seconds, inquiry, url, why) {
+        Ok(outcome) => {
+            let status = status_of(rt.alloc(), &outcome, inquiry.form, output, errors);
+            let_go(outcome);
+            status
+        }
+        Err(stop) => told(&stop, errors),
+    }
 }
 
 /// Asks the server at the other end of a stream. Where there is no stream the stop says so, and nothing else is told.
@@ -81,7 +109,7 @@ pub fn ask_at<R, S, T, O, E>(
     stream: Result<S, Reason>,
     timer: T,
     seconds: u32,
-    question: Question,
+    inquiry: &Inquiry,
     url: &str,
     output: &mut O,
     errors: &mut E,
@@ -106,7 +134,7 @@ where
             stream,
             timer,
             seconds,
-            question,
+            inquiry,
             Some(url),
             output,
             errors,
@@ -134,7 +162,7 @@ fn ask_first<R, O, E>(
     mut listener: Listener,
     mut deadline: Deadline<R>,
     seconds: u32,
-    question: Question,
+    inquiry: &Inquiry,
     output: &mut O,
     errors: &mut E,
     why: &mut Why,
@@ -150,7 +178,7 @@ where
     let_go(listener);
     match came {
         Ok(socket) => ask_stream(
-            rt, socket, deadline, seconds, question, None, output, errors, why,
+            rt, socket, deadline, seconds, inquiry, None, output, errors, why,
         ),
         Err(reason) => {
             *why = Why::NobodyCame(reason, seconds);
@@ -165,7 +193,7 @@ pub fn ask_caller<R, O, E>(
     listener: Result<Listener, Reason>,
     deadline: Deadline<R>,
     seconds: u32,
-    question: Question,
+    inquiry: &Inquiry,
     output: &mut O,
     errors: &mut E,
     why: &mut Why,
@@ -182,7 +210,7 @@ where
 {
     match listener {
         Ok(listener) => Ok(ask_first(
-            rt, listener, deadline, seconds, question, output, errors, why,
+            rt, listener, deadline, seconds, inquiry, output, errors, why,
         )),
         Err(reason) => {
             *why = Why::NotListening(reason);

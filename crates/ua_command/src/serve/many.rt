@@ -6,7 +6,7 @@ ghost use Rattle.ua_command.specs.Serve.{IsServeStatus, IsServeStop, Serves};
 use crate::answer::Ending;
 use crate::run::told;
 use crate::serve::{print_ended, status_with};
-use crate::settings::{Source, settings_in};
+use crate::settings::settings_in;
 use crate::stop::Stop;
 use crate::why::Why;
 use std::alloc::Global;
@@ -19,6 +19,7 @@ use ua_link::{Clock, MachineClock, Over, ReadyLink};
 use ua_serve::{Connections, Parted, Sockets, Step, TcpSockets};
 use ua_socket::Reason;
 use ua_value::plumbing::let_go;
+use ua_words::Source;
 
 /// The ticks of 100 ns in a second.
 const SECOND: u64 = 10_000_000;

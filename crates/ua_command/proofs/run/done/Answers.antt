@@ -1,6 +1,6 @@
 use Rattle.std.proofs.Common.{refl}
 use Rattle.ua_command.specs.Run.{Streams}
-use Rattle.ua_command.proofs.Ends.{answer_done, answer_reads, value_done, show_done, serve_done, many_done, ask_done, answer_stopped, file_stopped, serve_stopped, many_stopped, link_stopped, asked_short}
+use Rattle.ua_command.proofs.Ends.{answer_done, answer_reads, value_done, show_done, show_unread, serve_done, many_done, ask_done, check_done, answer_stopped, file_stopped, serve_stopped, many_stopped, link_stopped, check_stopped, asked_short, checked_short}
 use Rattle.ua_command.proofs.run.done.Goals as goal
 
 pub returns-in-Answer-clause-done : goal.returns-in-Answer-clause-done
@@ -17,15 +17,18 @@ returns-in-Answer-clause-unread g c = answer_reads _ c.in-Answer.source c.in-Ans
 pub returns-in-Value-clause-done : goal.returns-in-Value-clause-done
 returns-in-Value-clause-done g c =
     let s : Streams = record { left = g.I.Read.remaining c.args.input.now; printed = g.O.Write.contents c.args.output.now; printed' = g.O.Write.contents c.value.new.output; told = g.E.Write.contents c.args.errors.now; told' = g.E.Write.contents c.args.errors.now } in
-    value_done _ c.in-Value.kind c.in-Value.bytes s c.value.result (rw c.in-Value.is at c.in-Ok.ensures.asked) refl (rw c.as_slice.ensures.value at c.value.ensures.done) (rw c.as_slice.ensures.value at c.value.ensures.refused) c.value.ensures.status
+    value_done _ c.in-Value.kind c.in-Value.bytes c.in-Value.form s c.value.result (rw c.in-Value.is at c.in-Ok.ensures.asked) refl (rw c.as_slice.ensures.value at c.value.ensures.done) (rw c.as_slice.ensures.value at c.value.ensures.refused) c.value.ensures.status
 
 pub returns-in-Value-clause-err : goal.returns-in-Value-clause-err
 returns-in-Value-clause-err g c = file_stopped _ _ _ c.value.result (rw c.in-Value.is at c.in-Ok.ensures.asked) c.value.ensures.err
 
 pub returns-in-Show-clause-done : goal.returns-in-Show-clause-done
 returns-in-Show-clause-done g c =
-    let s : Streams = record { left = g.I.Read.remaining c.args.input.now; printed = g.O.Write.contents c.args.output.now; printed' = g.O.Write.contents c.show.new.output; told = g.E.Write.contents c.args.errors.now; told' = g.E.Write.contents c.args.errors.now } in
-    show_done _ c.in-Show.capture s c.show.result (rw c.in-Show.is at c.in-Ok.ensures.asked) refl c.show.ensures.ok
+    let s : Streams = record { left = g.I.Read.remaining c.args.input.now; printed = g.O.Write.contents c.args.output.now; printed' = g.O.Write.contents c.show.new.output; told = g.E.Write.contents c.args.errors.now; told' = g.E.Write.contents c.show.new.errors } in
+    show_done _ c.in-Show.capture c.in-Show.form c.in-Show.stream c.in-Show.port s c.show.result (rw c.in-Show.is at c.in-Ok.ensures.asked) c.show.ensures.ok
+
+pub returns-in-Show-clause-unread : goal.returns-in-Show-clause-unread
+returns-in-Show-clause-unread g c = show_unread _ c.in-Show.capture c.in-Show.form c.in-Show.stream c.in-Show.port _ _ (rw c.in-Show.is at c.in-Ok.ensures.asked) c.show.ensures.unread
 
 pub returns-in-Show-clause-err : goal.returns-in-Show-clause-err
 returns-in-Show-clause-err g c = file_stopped _ _ _ c.show.result (rw c.in-Show.is at c.in-Ok.ensures.asked) c.show.ensures.err
@@ -47,12 +50,20 @@ pub returns-in-ServeMany-clause-err : goal.returns-in-ServeMany-clause-err
 returns-in-ServeMany-clause-err g c = many_stopped _ c.in-ServeMany.source c.in-ServeMany.address c.in-ServeMany.connections c.in-ServeMany.at_once c.in-ServeMany.patience _ c.serve_many.result (rw c.in-ServeMany.is at c.in-Ok.ensures.asked) c.serve_many.ensures.err
 
 pub ask-requires : goal.ask-requires
-ask-requires g c = asked_short _ c.in-Ask.question c.in-Ask.address c.in-Ask.url c.in-Ask.seconds c.as_deref.result (rw c.in-Ask.is at c.in-Ok.ensures.asked) c.as_deref.ensures.value
+ask-requires g c = asked_short _ c.in-Ask.question c.in-Ask.locales c.in-Ask.filter c.in-Ask.address c.in-Ask.url c.in-Ask.seconds c.in-Ask.form c.as_deref.result (rw c.in-Ask.is at c.in-Ok.ensures.asked) c.as_deref.ensures.value
 
 pub returns-in-Ask-clause-done : goal.returns-in-Ask-clause-done
 returns-in-Ask-clause-done g c =
     let s : Streams = record { left = g.I.Read.remaining c.args.input.now; printed = g.O.Write.contents c.args.output.now; printed' = g.O.Write.contents c.ask.new.output; told = g.E.Write.contents c.args.errors.now; told' = g.E.Write.contents c.ask.new.errors } in
-    ask_done _ c.in-Ask.question c.in-Ask.address c.in-Ask.url c.in-Ask.seconds s c.ask.result (rw c.in-Ask.is at c.in-Ok.ensures.asked) c.ask.ensures.ok
+    ask_done _ c.in-Ask.question c.in-Ask.locales c.in-Ask.filter c.in-Ask.address c.in-Ask.url c.in-Ask.seconds c.in-Ask.form s c.ask.result (rw c.in-Ask.is at c.in-Ok.ensures.asked) c.ask.ensures.ok
 
 pub returns-in-Ask-clause-err : goal.returns-in-Ask-clause-err
-returns-in-Ask-clause-err g c = link_stopped _ c.in-Ask.question c.in-Ask.address c.in-Ask.url c.in-Ask.seconds _ c.ask.result (rw c.in-Ask.is at c.in-Ok.ensures.asked) c.ask.ensures.err
+returns-in-Ask-clause-err g c = link_stopped _ c.in-Ask.question c.in-Ask.locales c.in-Ask.filter c.in-Ask.address c.in-Ask.url c.in-Ask.seconds c.in-Ask.form _ c.ask.result (rw c.in-Ask.is at c.in-Ok.ensures.asked) c.ask.ensures.err
+
+pub returns-in-Check-clause-done : goal.returns-in-Check-clause-done
+returns-in-Check-clause-done g c =
+    let s : Streams = record { left = g.I.Read.remaining c.args.input.now; printed = g.O.Write.contents c.args.output.now; printed' = g.O.Write.contents c.check.new.output; told = g.E.Write.contents c.args.errors.now; told' = g.E.Write.contents c.check.new.errors } in
+    check_done _ c.in-Check.source c.in-Check.address c.in-Check.url c.in-Check.seconds s c.check.result (rw c.in-Check.is at c.in-Ok.ensures.asked) c.check.ensures.ok
+
+pub returns-in-Check-clause-err : goal.returns-in-Check-clause-err
+returns-in-Check-clause-err g c = check_stopped _ c.in-Check.source c.in-Check.address c.in-Check.url c.in-Check.seconds _ c.check.result (rw c.in-Check.is at c.in-Ok.ensures.asked) c.check.ensures.err

@@ -3,8 +3,8 @@ use Rattle.ua_disco.specs.Configuration.{Configuration}
 use Rattle.ua_disco.specs.Settings.{default_text}
 use Rattle.ua_disco.specs.Tables.{settings_of}
 use Rattle.ua_command.specs.Settings.{IsSettings}
-use Rattle.ua_command.specs.declared.settings.Source.{Source}
-use Rattle.ua_command.specs.declared.settings.Source.TheVariants.{Default}
+use Rattle.ua_words.specs.declared.source.Source.{Source}
+use Rattle.ua_words.specs.declared.source.Source.TheVariants.{Default}
 use Rattle.ua_command.proofs.settings.settings_in.Goals as goal
 
 by_default : {E : Type 0} (source : Source) (text : List ℕ) (r : Result Configuration E) → source ≡ Default → text ≡ default_text

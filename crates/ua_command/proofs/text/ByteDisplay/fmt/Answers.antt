@@ -1,5 +1,0 @@
-use Rattle.ua_command.proofs.Texts.{two_text}
-use Rattle.ua_command.proofs.text.ByteDisplay.fmt.Goals as goal
-
-pub from_utf8_unchecked-requires : goal.from_utf8_unchecked-requires
-from_utf8_unchecked-requires g c = two_text c.digit.result c.digit-2.result c.digit.ensures.ascii c.digit-2.ensures.ascii

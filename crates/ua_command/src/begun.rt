@@ -1,0 +1,51 @@
+//! What an input of captures begins with.
+
+ghost use Rattle.std.specs.Prelude.{IfOk};
+ghost use Rattle.ua_command.specs.Begun.{IsBegun};
+
+use crate::input::{InputFault, MOST_READS};
+use std::alloc::Global;
+use std::io::Read;
+use ua_trace::is_capture;
+
+/// The bytes that tell a file of packets from raw bytes.
+const TELLING: usize = 4;
+
+/// What an input begins with.
+#[derive(Drop)]
+pub enum Begun {
+    /// Raw bytes, which are all of it.
+    Raw(Vec<u8>),
+    /// A file of packets, of which these are the first bytes.
+    Packets(Vec<u8>),
+}
+
+/// The whole of an input of raw bytes, or the first bytes of one of packets, by at most `MOST_READS` reads.
+///
+/// `Failed` where a read fails or the end has not come by then, `NoMemory` where the bytes find no room. After an error
+/// the input stands behind what was read.
+pub fn begin<I: Read>(alloc: Global, input: &mut I) -> Result<Begun, InputFault>
+    ensures { IfOk result (IsBegun (I.remaining input.old) (I.remaining input.new)) }
+{
+    let mut all = Vec::new(alloc);
+    let mut piece = [0u8; 4096];
+    let mut is_raw = false;
+    'reads: for _ in 0..MOST_READS {
+        let Ok(n) = input.read(&mut piece) else {
+            return Err(InputFault::Failed);
+        };
+        if n == 0 {
+            return Ok(Begun::Raw(all));
+        }
+        if all.extend_from_slice(&piece[..n]).is_err() {
+            return Err(InputFault::NoMemory);
+        }
+        if !is_raw && all.len() >= TELLING {
+            if is_capture(all.as_slice()) {
+                return Ok(Begun::Packets(all));
+            }
+            is_raw = true;
+        }
+    }
+    Err(InputFault::Failed)
+}

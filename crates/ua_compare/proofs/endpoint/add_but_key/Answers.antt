@@ -1,0 +1,6 @@
+use Rattle.std.proofs.Common.{rules}
+use Rattle.ua_compare.proofs.SaidLemmas.{says_then}
+use Rattle.ua_compare.proofs.endpoint.add_but_key.Goals as goal
+
+pub returns : goal.returns
+returns c = search (rules, says_then)

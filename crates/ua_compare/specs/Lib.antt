@@ -1,0 +1,4 @@
+pub mod Offer
+pub mod Said
+pub mod Same
+pub mod SameLaws

@@ -1,0 +1,11 @@
+use Rattle.std.proofs.Common.{subst, OnOk, ◌≡◌, ◌++◌, ◌∙◌, ap, string_bytes, List, ℕ}
+use Rattle.std.specs.Char.{encode_utf8}
+use Rattle.ua_print.proofs.FrameLines.{message_row}
+use Rattle.ua_print.proofs.frame_line.add_message_frame.Goals as goal
+
+pub returns : goal.returns
+returns c =
+    let line =
+    message_row c.args.chunk.now c.args.offset c.args.size _ _ _ _ _ _ c.put_chunk-at.ensures.written c.put_number-at.ensures.written (c.encode_utf8-flag.ensures.value ∙ ap encode_utf8 (cc))
+    c.put_word-at.ensures.written c.put_word-at-2.ensures.written c.put_number-at-2.ensures.written in
+    subst (λ (l : List ℕ). OnOk c.add_row.result (string_bytes c.add_row.new.text ≡ string_bytes c.args.text.now ++ l)) line c.add_row.ensures

@@ -1,0 +1,5 @@
+pub mod Printed
+pub mod Escape
+pub mod FrameLine
+pub mod Parts
+pub mod Capture

@@ -1,0 +1,105 @@
+//! A message whose parts lie apart: how long it is, and the encoding id that it begins with.
+
+ghost use Rattle.std.specs.Prelude.{◌≡◌, ◌≤◌, ℕ, List, ◌++◌, length, IfOk, IfSome, IsTrue, OnOk, None, Some, string_bytes};
+ghost use Rattle.ua_print.specs.FrameLine.{type_in, message_line};
+ghost use Rattle.ua_print.specs.Parts.{joined};
+
+use crate::frame_line::{add_message_text, type_of};
+use std::alloc::{AllocError, Global};
+use ua_value::{NoMemory, NodeId};
+
+/// How many bytes the parts have.
+///
+/// # Errors
+///
+/// `NoMemory` where there are more than 64 bits can say, which no machine holds.
+pub fn size_of(parts: &[&[u8]]) -> Result<usize, NoMemory>
+    ensures { IfOk result (λ n. n ≡ length (joined parts.now)) }
+{
+    let mut size: usize = 0;
+    'parts: for part in parts {
+        match size.checked_add(part.len()) {
+            Some(more) => size = more,
+            None => return Err(AllocError),
+        }
+    }
+    Ok(size)
+}
+
+/// The parts as one, which has room for so many bytes from the start.
+fn join(alloc: Global, parts: &[&[u8]], size: usize) -> Result<Vec<u8>, NoMemory>
+    ensures { IfOk result (λ whole. whole.items ≡ joined parts.now) }
+{
+    let mut whole = Vec::with_capacity(alloc, size)?;
+    'parts: for part in parts {
+        whole.extend_from_slice(part)?;
+    }
+    Ok(whole)
+}
+
+/// The encoding id that the joined parts, of so many bytes, begin with, if any.
+fn type_of_joined(alloc: Global, parts: &[&[u8]], size: usize) -> Result<Option<NodeId>, NoMemory>
+    ensures { IfOk result (λ id. id ≡ type_in (joined parts.now)) }
+{
+    let whole = join(alloc, parts, size)?;
+    type_of(alloc, whole.as_slice())
+}
+
+/// The encoding id that these bytes begin with, and whatever follows them, if these have it whole.
+fn type_of_first(alloc: Global, bytes: &[u8]) -> Result<Option<NodeId>, NoMemory>
+    ensures { IfOk result (λ found. IfSome found (λ id. (more : List ℕ) → type_in (bytes.now ++ more) ≡ Some id)) }
+{
+    type_of(alloc, bytes)
+}
+
+/// The greatest byte that a node id begins with.
+const LAST_FORM: u8 = 5;
+
+/// Whether what begins with these bytes begins with no encoding id, as by their first byte where bodies are encrypted.
+fn has_no_type(bytes: &[u8]) -> bool
+    ensures { IsTrue result → (more : List ℕ) → type_in (bytes.now ++ more) ≡ None }
+{
+    match bytes {
+        [form, ..] => *form > LAST_FORM,
+        [] => false,
+    }
+}
+
+/// The encoding id that the joined parts, of so many bytes, begin with, if any. They are joined only where the first does
+/// not tell. OPC 10000-6, 5.2.9.
+///
+/// # Errors
+///
+/// `NoMemory` where a growth was refused.
+pub fn type_of_parts(
+    alloc: Global,
+    parts: &[&[u8]],
+    size: usize,
+) -> Result<Option<NodeId>, NoMemory>
+    requires { 1 ≤ length parts.now }
+    ensures { IfOk result (λ id. id ≡ type_in (joined parts.now)) }
+{
+    if has_no_type(parts[0]) {
+        return Ok(None);
+    }
+    match type_of_first(alloc, parts[0])? {
+        Some(id) => Ok(Some(id)),
+        None => type_of_joined(alloc, parts, size),
+    }
+}
+
+/// Appends the line of a whole message in parts under this request id. After an error a beginning of it may stand there.
+#[tactic(auto, unfolding(crate::specs::FrameLine::message_line))]
+pub fn add_parts(
+    alloc: Global,
+    text: &mut String,
+    request_id: u32,
+    parts: &[&[u8]],
+) -> Result<(), NoMemory>
+    requires { 1 ≤ length parts.now }
+    ensures { OnOk result (string_bytes text.new ≡ string_bytes text.old ++ message_line request_id (joined parts.now)) }
+{
+    let size = size_of(parts)?;
+    let id = type_of_parts(alloc, parts, size)?;
+    add_message_text(text, request_id, id.as_ref(), size)
+}

@@ -1,0 +1,4 @@
+pub mod Rows
+pub mod Asked
+pub mod Refusals
+pub mod Texts
