@@ -63,14 +63,14 @@ pub(crate) fn add_faults(text: &mut String, reason: &UaString) -> Result<(), All
     add_service_fault(text, 0x800B_0000)?;
     add_abort(text, 0x80B9_0000)?;
     add_error(text, 0x8080_0000, reason)?;
-    add_broken(text, 0x8000_0000)
+    add_broken(text, 0x8FFF_0000)
 }
 
 pub(crate) const FAULT_LINES: &str = "\
 {\"ServiceResult\":{\"Code\":2148204544,\"Symbol\":\"BadServiceUnsupported\"}}\n\
 {\"Abort\":{\"Code\":2159607808,\"Symbol\":\"BadResponseTooLarge\"}}\n\
 {\"Error\":{\"Code\":2155872256,\"Symbol\":\"BadTcpMessageTooLarge\"},\"Reason\":\"too \\\"large\\\"\"}\n\
-{\"Refused\":{\"Code\":2147483648}}\n";
+{\"Refused\":{\"Code\":2415853568}}\n";
 
 pub(crate) fn reason(alloc: Global) -> Result<UaString, ValueFault> {
     UaString::new(alloc, "too \"large\"")

@@ -71,7 +71,12 @@ const TEXTS: [Row; 13] = [
         "00000b80",
         "{\"Code\":2148204544,\"Symbol\":\"BadServiceUnsupported\"}",
     ),
-    (Kind::StatusCode, "0000ab80", "{\"Code\":2158690304}"),
+    (
+        Kind::StatusCode,
+        "0000ab80",
+        "{\"Code\":2158690304,\"Symbol\":\"BadInvalidArgument\"}",
+    ),
+    (Kind::StatusCode, "0000ff8f", "{\"Code\":2415853568}"),
 ];
 
 const MOMENTS: [Row; 7] = [
