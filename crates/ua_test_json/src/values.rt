@@ -36,7 +36,7 @@ const NUMBERS: [Row; 21] = [
     (Kind::Double, "0000000000000000", "0.0"),
 ];
 
-const TEXTS: [Row; 13] = [
+const TEXTS: [Row; 14] = [
     (Kind::String, "ffffffff", "null"),
     (Kind::String, "00000000", "\"\""),
     // a quote, a backslash, a line end, a control character and one beyond ASCII
