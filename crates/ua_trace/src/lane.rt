@@ -52,9 +52,11 @@ fn remove_front(bytes: &mut Vec<u8>, n: usize)
     requires { n ≤ vec_len bytes.old }
     ensures { bytes.new.items ≡ drop n bytes.old.items }
 {
-    let left = bytes.len() - n;
-    bytes.copy_within(n.., 0);
-    bytes.truncate(left);
+    if n > 0 {
+        let left = bytes.len() - n;
+        bytes.copy_within(n.., 0);
+        bytes.truncate(left);
+    }
 }
 
 impl Lane {
