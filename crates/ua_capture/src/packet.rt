@@ -10,7 +10,7 @@ use crate::tcp::{Header, header_in};
 use std::marker::Model;
 
 /// An address of the internet protocol, in the order of the network.
-#[derive(Clone, Copy, Debug, PartialEq, Eq, Hash)]
+#[derive(Clone, Copy, Debug, PartialEq, Eq, PartialOrd, Ord, Hash)]
 pub enum Address {
     /// RFC 791.
     Four([u8; 4]),
@@ -19,7 +19,7 @@ pub enum Address {
 }
 
 /// One end of a connection.
-#[derive(Clone, Copy, Debug, PartialEq, Eq, Hash)]
+#[derive(Clone, Copy, Debug, PartialEq, Eq, PartialOrd, Ord, Hash)]
 pub struct Endpoint {
     /// The address of the machine.
     pub address: Address,

@@ -3,6 +3,8 @@ pub mod Run
 pub mod Flow
 pub mod Side
 pub mod Connection
+pub mod Ends
 pub mod Streams
+pub mod Index
 pub mod Shown
 pub mod Follow

@@ -2,7 +2,9 @@
 #![tactic(auto)]
 
 mod connection;
+mod ends;
 mod follow;
+mod index;
 mod part;
 mod parts;
 mod run;

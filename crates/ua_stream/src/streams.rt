@@ -1,12 +1,16 @@
 //! The connections of a capture.
 
-ghost use Rattle.std.specs.Prelude.{◌≡◌, ◌<◌, ◌≤◌, ◌==◌, [], length, IfSome, IfNone, IfOk, slice_get, OnOk, vec_len};
+ghost use Rattle.std.specs.Prelude.{◌≡◌, ◌<◌, ◌≤◌, ◌==◌, [], ◌∷◌, ◌++◌, length, IfSome, IfNone, IfOk, slice_get, OnOk, OnErr, vec_len};
 ghost use Rattle.std.specs.Option.{option_copied};
+ghost use Rattle.ua_stream.specs.Connection.{no_bytes};
+ghost use Rattle.ua_stream.specs.Index.{IsIndex, KeepAllEnds};
 ghost use Rattle.ua_stream.specs.Shown.{connections_of};
 ghost use Rattle.ua_stream.specs.Streams.{IsLast, HasNone, GoesOn, Opens, IsPutAt, IsBegun, IsPut, IsFull, IsClearedAt, IsGivenUpAt};
 
 use crate::connection::{Connection, Way};
+use crate::index::Index;
 use std::alloc::{AllocError, Global};
+use std::marker::Model;
 use ua_capture::{Endpoint, Segment};
 
 /// The most connections that are followed.
@@ -16,33 +20,49 @@ pub const MOST_CONNECTIONS: usize = 16384;
 #[derive(Drop)]
 pub struct Streams {
     connections: Vec<Connection>,
+    /// By which the last connection between two ends is found.
+    index: Index,
+}
+
+impl Model for Streams {
+    ghost use Rattle.std.specs.Prelude.{List};
+    ghost use Rattle.ua_stream.specs.declared.connection.Connection.{Connection as Seen};
+    ghost use Rattle.ua_stream.specs.Index.{IsIndex};
+
+    ghost Value = { List Seen };
+
+    ghost view = { λ a. a.connections.items };
+
+    ghost invariant = { λ a. IsIndex a.connections.items a.index };
 }
 
 /// The last connection of these ends, and the way of what goes from the one to the other.
 pub(crate) fn last_of(
     connections: &[Connection],
+    index: &Index,
     from: Endpoint,
     to: Endpoint,
 ) -> Option<(usize, Way)>
+    requires { IsIndex connections.now index.now }
     ensures found { IfSome result (λ last. IsLast connections.now from to last.0 last.1) }
     ensures none { IfNone result (HasNone connections.now from to 0) }
 {
-    let mut i = connections.len();
-    while i > 0 {
-        i -= 1;
-        if let Some(way) = connections[i].way_of(from, to) {
-            return Some((i, way));
-        }
+    match index.get(from, to) {
+        Some(number) => match connections[number].way_of(from, to) {
+            Some(way) => Some((number, way)),
+            None => None,
+        },
+        None => None,
     }
-    None
 }
 
 /// The connection that a segment belongs to, and its way there: the last of its ends, unless it opens another one.
-fn place_of(connections: &[Connection], segment: &Segment) -> Option<(usize, Way)>
+fn place_of(connections: &[Connection], index: &Index, segment: &Segment) -> Option<(usize, Way)>
+    requires { IsIndex connections.now index.now }
     ensures goes_on { IfSome result (λ place. GoesOn connections.now segment.now place.0 place.1) }
     ensures opens { IfNone result (Opens connections.now segment.now) }
 {
-    match last_of(connections, segment.from(), segment.to()) {
+    match last_of(connections, index, segment.from(), segment.to()) {
         Some((number, way)) => {
             if connections[number].begins_new(way, segment) {
                 None
@@ -51,6 +71,29 @@ fn place_of(connections: &[Connection], segment: &Segment) -> Option<(usize, Way
             }
         }
         None => None,
+    }
+}
+
+/// Begins a connection with a segment, whose bytes are not taken yet.
+fn begin(
+    connections: &mut Vec<Connection>,
+    index: &mut Index,
+    alloc: Global,
+    segment: &Segment,
+) -> Result<(), AllocError>
+    requires { IsIndex connections.old.items index.old }
+    ensures begun { OnOk result (connections.new.items ≡ connections.old.items ++ no_bytes segment.now ∷ []) }
+    ensures unchanged { OnErr result (connections.new.items ≡ connections.old.items) }
+    ensures indexed { IsIndex connections.new.items index.new }
+{
+    let number = connections.len();
+    connections.push(Connection::new(alloc, segment))?;
+    match index.put(segment.from(), segment.to(), number) {
+        Ok(()) => Ok(()),
+        Err(error) => {
+            connections.truncate(number);
+            Err(error)
+        }
     }
 }
 
@@ -65,6 +108,7 @@ fn put_at(
     requires { number < vec_len connections.old }
     ensures put { OnOk result (IsPutAt connections.old.items segment.now number way connections.new.items) }
     ensures kept { vec_len connections.new ≡ vec_len connections.old }
+    ensures ends { KeepAllEnds connections.old.items connections.new.items }
 {
     connections[number].take(alloc, way, segment)?;
     Ok(())
@@ -93,6 +137,7 @@ impl Streams {
     {
         Streams {
             connections: Vec::new(alloc),
+            index: Index::new(alloc),
         }
     }
 
@@ -120,7 +165,8 @@ impl Streams {
     /// Takes the bytes of a segment, and says the number of its connection and its way there. It is one more of the last
     /// connection of its ends; it begins a connection where there is none, and where it is a SYN that acknowledges
     /// nothing and is not known to be the one that opened that. `None` says that 16384 connections are followed, and that
-    /// it would begin one more. To find the connection it goes over all, the last first.
+    /// it would begin one more. The last connection of its ends is found in a count of steps that grows with the logarithm
+    /// of that of the connections, whatever their ends are.
     ///
     /// # Errors
     ///
@@ -135,7 +181,7 @@ impl Streams {
         ensures full { IfOk result (λ place. IfNone place (IsFull (connections_of self.old) segment.now (connections_of self.new))) }
         ensures kept { length (connections_of self.old) ≤ length (connections_of self.new) }
     {
-        match place_of(&self.connections, segment) {
+        match place_of(&self.connections, &self.index, segment) {
             Some((number, way)) => {
                 put_at(&mut self.connections, alloc, number, way, segment)?;
                 Ok(Some((number, way)))
@@ -156,7 +202,7 @@ impl Streams {
         if number >= MOST_CONNECTIONS {
             return Ok(None);
         }
-        self.connections.push(Connection::new(alloc, segment))?;
+        begin(&mut self.connections, &mut self.index, alloc, segment)?;
         put_at(&mut self.connections, alloc, number, Way::Forth, segment)?;
         Ok(Some((number, Way::Forth)))
     }
