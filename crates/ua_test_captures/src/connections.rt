@@ -51,7 +51,7 @@ fn begins(alloc: Global, streams: &mut Streams, one: End, other: End) -> Result<
     let begun = take(alloc, streams, one, other, 10, ACK)? == Some((number, Way::Forth));
     let back = take(alloc, streams, other, one, 20, ACK)? == Some((number, Way::Back));
     let again = take(alloc, streams, one, other, 11, ACK)? == Some((number, Way::Forth));
-    Ok(begun && back && again && streams.len() == number + 1)
+    Ok(begun && back && again && streams.len() == number.saturating_add(1))
 }
 
 /// Ends of which now the one, now the other is lower, by its address or its port.
@@ -143,7 +143,7 @@ const MANY: u16 = 4000;
 
 /// The client of a connection of the crowd.
 fn client(number: u16) -> End {
-    End((number % 200) as u8, number / 2 + 40000)
+    End((number % 200) as u8, number / 2 + 30000)
 }
 
 /// Whether the answers to a crowd, in another order than that in which it came, are of its connections.
@@ -174,4 +174,48 @@ fn are_found(alloc: Global) -> Result<bool, AllocError> {
 fn each_of_many_connections_is_found(rt: HostRuntime) -> Result<(), Fail> {
     assert!(rt; are_found(rt.alloc())?);
     Ok(())
+}
+
+/// Whether a segment is of the connection with this number, or memory is refused.
+fn is_at(place: Result<Option<(usize, Way)>, AllocError>, number: usize, way: Way) -> bool {
+    match place {
+        Ok(place) => place == Some((number, way)),
+        Err(_) => true,
+    }
+}
+
+/// Whether a connection begins, and does so with the next segment where memory is refused.
+fn begins_in_the_end(alloc: Global, streams: &mut Streams, port: u16) -> bool {
+    let number = streams.len();
+    match take(alloc, streams, End(1, port), SERVER, 10, ACK) {
+        Ok(place) => {
+            place == Some((number, Way::Forth)) && streams.len() == number.saturating_add(1)
+        }
+        Err(_) => {
+            let place = take(alloc, streams, End(1, port), SERVER, 10, ACK);
+            is_at(place, number, Way::Forth)
+        }
+    }
+}
+
+/// Whether as many connections begin as the index has to grow for, and are found by the other end.
+fn begin_in_the_end(alloc: Global, streams: &mut Streams) -> bool {
+    for port in 0..14u16 {
+        if !begins_in_the_end(alloc, streams, port) {
+            return false;
+        }
+    }
+    for port in 0..14u16 {
+        let place = take(alloc, streams, SERVER, End(1, port), 20, ACK);
+        if !is_at(place, port as usize, Way::Back) {
+            return false;
+        }
+    }
+    true
+}
+
+#[test]
+fn connections_begin_or_no_memory(rt: HostRuntime) {
+    let mut streams = Streams::new(rt.alloc());
+    assert!(rt; begin_in_the_end(rt.alloc(), &mut streams));
 }
