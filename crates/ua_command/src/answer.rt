@@ -1,52 +1,31 @@
 //! The command `answer`: answers the pieces of a connection.
 
-ghost use Rattle.std.specs.Prelude.{◌≡◌, ◌≤◌, ◌+◌, ◌*◌, ◌++◌, List, [], ℕ, codes, map, vec_capacity, IfOk, OnOk, IfErr, Ok, Some, string_bytes};
+ghost use Rattle.std.specs.Prelude.{◌≡◌, ◌≤◌, ◌+◌, ◌*◌, ◌++◌, List, [], ℕ, codes, map, vec_capacity, IfOk, OnOk, IfErr, Ok, string_bytes};
 ghost use Rattle.std.specs.Io.KnownBytes.{Appends};
 ghost use Rattle.hex.specs.Hex.{encode_lower};
 ghost use Rattle.ua_frame.specs.Streams.{pieces_of};
 ghost use Rattle.ua_command.specs.Answer.{answer_lines, answered as answered_bytes, ending, end_text, piece_of, stream_of, IsInput, AnswersInput, AnswersBy};
-ghost use Rattle.ua_command.specs.End.{end_status};
 ghost use Rattle.ua_command.specs.Reverse.{CanOpen, IsReverseFault};
 ghost use Rattle.ua_command.specs.Script.{script_in, times};
 ghost use Rattle.ua_command.specs.Stop.{IsFileStop, IsInputStop, IsAnsweringStop, IsAnswerStop, IsQuiet};
 
+use crate::ending::Ending;
 use crate::input::read_whole;
 use crate::script::{TimedPiece, script_of};
 use crate::settings::settings_in;
 use crate::stop::{Stop, print_bytes};
 use std::alloc::{AllocError, Global};
-use std::fmt;
 use std::io::{Read, Write};
 use std::rt::Files;
 use ua_conn::{End, ReverseFault, reply_all, reply_all_reverse};
 use ua_disco::Settings;
 use ua_hex::encode_onto;
-use ua_print::Code;
 use ua_value::NoMemory;
+use ua_value::plumbing::let_go;
 use ua_words::Source;
 
 /// The id of the channel that a connection of the command has.
 const CHANNEL: u32 = 1;
-
-/// How a connection ended, as the command prints it.
-#[derive(Clone, Copy)]
-pub struct Ending(pub End);
-
-impl fmt::Display for Ending {
-    ghost output = { λ e. Some (end_text e.0) };
-
-    fn fmt<W: fmt::Write>(&self, f: &mut fmt::Formatter<W>) -> fmt::Result {
-        match self.0 {
-            End::Closed => f.write_str("closed"),
-            End::InputEnded => f.write_str("input-ended"),
-            End::Truncated => f.write_str("truncated"),
-            End::Refused(status) => write!(f, "refused {}", Code(status)),
-            End::LinkFailed => f.write_str("link-failed"),
-            End::TurnsSpent => f.write_str("turns-spent"),
-            End::NoMemory => f.write_str("memory"),
-        }
-    }
-}
 
 /// The moments of the pieces, and their bytes as they are lent to a connection.
 fn lent(alloc: Global, pieces: &[TimedPiece]) -> Result<Vec<(i64, &[u8])>, NoMemory>
@@ -79,6 +58,23 @@ fn answered(
         Ok(replied) => Ok(replied),
         Err(_) => Err(ReverseFault::NoMemory),
     }
+}
+
+/// The same of pieces that are let go of before anything is made of the reply.
+fn answered_once(
+    alloc: Global,
+    settings: &Settings,
+    reverse: bool,
+    pieces: Vec<TimedPiece>,
+) -> Result<(Vec<u8>, End), ReverseFault>
+    ensures can_open { IfOk result (λ _. CanOpen reverse settings.now) }
+    ensures reply { IfOk result (λ replied. replied.0.items ≡ answered_bytes reverse settings.now (stream_of (times pieces.items))) }
+    ensures end { IfOk result (λ replied. replied.1 ≡ ending settings.now (stream_of (times pieces.items))) }
+    ensures fault { IfErr result (IsReverseFault reverse settings.now) }
+{
+    let answered = answered(alloc, settings, reverse, pieces.as_slice());
+    let_go(pieces);
+    answered
 }
 
 /// The end of the line of the reply, and the line of the end.
@@ -123,19 +119,6 @@ fn print_answer<O: Write>(alloc: Global, reply: &[u8], end: End, output: &mut O)
     print_bytes(output, lines.as_slice())
 }
 
-/// The exit status of an end: 0 where a close came or the input ended behind a whole frame, 1 where a frame was
-/// refused or cut, 3 where the link failed, 4 for want of memory.
-fn status_of(end: End) -> u8
-    ensures { result ≡ end_status end }
-{
-    match end {
-        End::Closed | End::InputEnded | End::TurnsSpent => 0,
-        End::Truncated | End::Refused(_) => 1,
-        End::LinkFailed => 3,
-        End::NoMemory => 4,
-    }
-}
-
 /// The pieces that the lines of the whole input give, or the number of the first bad line.
 fn pieces_in<I: Read>(alloc: Global, input: &mut I) -> Result<Vec<TimedPiece>, Stop>
     ensures ok { IfOk result (λ pieces. (text : List ℕ) × IsInput (I.remaining input.old) text × (script_in text ≡ Ok (times pieces.items))) }
@@ -159,9 +142,9 @@ fn answer_input<I: Read, O: Write>(
     ensures quiet { IfErr result (λ stop. IsQuiet stop (O.contents output.old) (O.contents output.new)) }
 {
     let pieces = pieces_in(alloc, input)?;
-    let (reply, end) = answered(alloc, settings, reverse, pieces.as_slice())?;
+    let (reply, end) = answered_once(alloc, settings, reverse, pieces)?;
     print_answer(alloc, reply.as_slice(), end, output)?;
-    Ok(status_of(end))
+    Ok(Ending(end).status())
 }
 
 /// Answers the pieces that the input gives by the settings of the source, prints the reply and the end, and gives the

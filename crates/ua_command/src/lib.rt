@@ -5,6 +5,7 @@ mod answer;
 mod ask;
 mod begun;
 mod check;
+mod ending;
 mod file;
 mod input;
 pub mod run;

@@ -5,7 +5,7 @@ ghost use Rattle.ua_command.specs.Serve.{IsServeStatus, IsServedStatus, IsServeS
 
 pub mod many;
 
-use crate::answer::Ending;
+use crate::ending::Ending;
 use crate::run::told;
 use crate::settings::settings_in;
 use crate::stop::{Stop, print};

@@ -3,7 +3,7 @@
 ghost use Rattle.std.specs.Prelude.{◌≡◌, ◌⊎◌, false, IsOk, IfOk, IfErr, MatchResult};
 ghost use Rattle.ua_command.specs.Serve.{IsServeStatus, IsServeStop, Serves};
 
-use crate::answer::Ending;
+use crate::ending::Ending;
 use crate::run::told;
 use crate::serve::{print_ended, status_with};
 use crate::settings::settings_in;
