@@ -1,7 +1,18 @@
 //! The connections of a server that has several at once, each with a place.
 
+ghost use Rattle.std.specs.Prelude.{◌≡◌, ◌≢◌, ◌+◌, ◌-◌, ◌^◌, ◌<◌, ◌↔◌, ℕ, pos, max, length, replicate, None, Some, true, false, slice_get, slice_set, IsTrue, All, IfOk};
+ghost use Rattle.ua_disco.specs.Configuration.{Configuration};
+ghost use Rattle.ua_frame.specs.Streams.{moment_of};
+ghost use Rattle.ua_serve.specs.declared.connections.Place.{Place};
+ghost use Rattle.ua_serve.specs.Places.{is_ready, HasPlace, AreNumbered};
+ghost use Rattle.ua_serve.specs.Turn.{seen_by, came, HasTurn, Takes};
+ghost use Rattle.ua_serve.specs.Admission.{Admits, Begins, pause_left, may_accept, with_failure, failure};
+ghost use Rattle.ua_serve.specs.Steps.{Moves, is_due, Steps, GoesOn, AllStand, IsTold};
+ghost use Rattle.ua_serve.specs.Waits.{Waits};
+
 use crate::sockets::{Accepted, Sockets};
 use std::alloc::Global;
+use std::marker::Model;
 use ua_conn::End;
 use ua_disco::Settings;
 use ua_link::{Clock, LinkFault, Over, ReadyLink, ReadyTurn, ServerConnection};
@@ -52,14 +63,28 @@ struct Place<'a, L> {
     written: u64,
 }
 
+/// The bytes that a read brought.
+fn came(cut: Option<(i64, usize)>) -> u64
+    ensures { result ≡ came cut }
+{
+    match cut {
+        Some((_, n)) => n as u64,
+        None => 0,
+    }
+}
+
 impl<'a, L: ReadyLink> Place<'a, L> {
     /// The ticks for which the client may still be quiet.
-    fn patience_left(&self, now: i64, patience: u64) -> u64 {
+    fn patience_left(&self, now: i64, patience: u64) -> u64
+        ensures { result ≡ patience - (max self.now.connection.latest (moment_of now) - self.now.connection.active) }
+    {
         self.connection.patience_left(now, patience)
     }
 
     /// Gives the connection a turn, unless its link failed too often to count that.
-    fn turn<C: Clock>(&mut self, clock: &mut C, patience: u64) -> ReadyTurn {
+    fn turn<C: Clock>(&mut self, clock: &mut C, patience: u64) -> ReadyTurn
+        ensures { (settings : Configuration) → Takes (seen_by L.input L.output L.fault_count) settings patience (C.answered clock.old) (C.answered clock.new) self.old self.new result }
+    {
         if self.link.failures() == u64::MAX {
             return ReadyTurn {
                 moment: 0,
@@ -68,13 +93,55 @@ impl<'a, L: ReadyLink> Place<'a, L> {
                 over: Some(Over::Ended(End::LinkFailed)),
             };
         }
+        self.turn_over_link(clock, patience)
+    }
+
+    /// Gives the connection a turn over its link, and counts what came and went.
+    fn turn_over_link<C: Clock>(&mut self, clock: &mut C, patience: u64) -> ReadyTurn
+        requires { L.fault_count self.old.link < 2 ^ 64 - 1 }
+        ensures { (settings : Configuration) → HasTurn (seen_by L.input L.output L.fault_count) settings patience (C.answered clock.old) (C.answered clock.new) self.old self.new result }
+    {
         let turn = self.connection.turn(&mut self.link, clock, patience);
-        if let Some((_, n)) = turn.cut {
-            self.read = self.read.saturating_add(n as u64);
-        }
+        self.read = self.read.saturating_add(came(turn.cut));
         self.written = self.written.saturating_add(turn.written as u64);
         turn
     }
+}
+
+/// Whether the connection with this place is given a turn: its link may do something, or its client was quiet for too long.
+fn is_due<L: ReadyLink>(seat: &Option<Place<L>>, is_ready: bool, moment: i64, patience: u64) -> bool
+    ensures { result ≡ is_due seat.now is_ready moment patience }
+{
+    match seat {
+        Some(taken) => is_ready || taken.patience_left(moment, patience) == 0,
+        None => false,
+    }
+}
+
+/// Gives the connection with this place a turn, and frees the place where that is its last: the connection and its link are
+/// let go of. The first of the answer says whether a further turn is due.
+fn turn_at<L: ReadyLink + Drop, C: Clock>(
+    seat: &mut Option<Place<L>>,
+    clock: &mut C,
+    patience: u64,
+) -> (bool, Step)
+    ensures { (settings : Configuration) (p : Place L) → seat.old ≡ Some p → Moves (seen_by L.input L.output L.fault_count) settings patience (C.answered clock.old) (C.answered clock.new) p seat.new result.0 result.1 }
+{
+    let Some(taken) = seat else {
+        return (false, Step::Quiet);
+    };
+    let turn = taken.turn(clock, patience);
+    let Some(over) = turn.over else {
+        return (turn.has_moved(), Step::Quiet);
+    };
+    let parted = Parted {
+        id: taken.id,
+        over,
+        read: taken.read,
+        written: taken.written,
+    };
+    *seat = None;
+    (false, Step::Parted(parted))
 }
 
 /// The connections of a server that has several at once. Each has one of so many places, and its link; where all are
@@ -92,12 +159,42 @@ pub struct Connections<'a, L> {
     left: u32,
     /// The id of the last one that began.
     last: u32,
-    now: i64,
+    /// The moment of the last wait.
+    moment: i64,
     /// The moment until which nobody is accepted.
     shut: i64,
     /// How often accepting failed, and how often since it last did not.
     failed: u64,
     in_a_row: u32,
+}
+
+impl<'a, L> Model for Connections<'a, L> {
+    ghost use Rattle.std.specs.Prelude.{◌≡◌, ◌+◌, ◌^◌, ◌<◌, length};
+    ghost use Rattle.ua_serve.specs.Places.{Crowd};
+
+    ghost Value = { Crowd L };
+
+    ghost view = { λ c. record {
+      settings = c.settings.now;
+      places = c.places.items;
+      ready = c.ready.items;
+      patience = c.patience;
+      left = c.left;
+      last = c.last;
+      moment = c.moment;
+      shut = c.shut;
+      failed = c.failed;
+      in_a_row = c.in_a_row;
+    } };
+
+    ghost invariant = { λ c. (length c.ready.items ≡ length c.places.items + 1) × (c.last + c.left < 2 ^ 32) };
+}
+
+/// Whether all these places are free.
+fn are_free<L>(places: &[Option<Place<L>>]) -> bool
+    ensures { IsTrue result ↔ All (λ place. place ≡ None) places.now }
+{
+    places.iter().all(|place| place.is_none())
 }
 
 /// The lesser of two numbers of ticks, where none is no limit.
@@ -121,7 +218,9 @@ impl<'a, L: ReadyLink + Drop> Connections<'a, L> {
         wanted: u32,
         at_once: u32,
         patience: u64,
-    ) -> Result<Connections<'a, L>, NoMemory> {
+    ) -> Result<Connections<'a, L>, NoMemory>
+        ensures { IfOk result (λ c. c ≡ record { settings = settings.now; places = replicate at_once None; ready = replicate (at_once + 1) true; patience = patience; left = wanted; last = 0; moment = pos 0; shut = pos 0; failed = 0; in_a_row = 0 }) }
+    {
         let at_once = at_once as usize;
         let ready = Vec::from_elem(alloc, true, at_once + 1)?;
         let mut places = Vec::new(alloc);
@@ -136,7 +235,7 @@ impl<'a, L: ReadyLink + Drop> Connections<'a, L> {
             patience,
             left: wanted,
             last: 0,
-            now: 0,
+            moment: 0,
             shut: 0,
             failed: 0,
             in_a_row: 0,
@@ -144,18 +243,24 @@ impl<'a, L: ReadyLink + Drop> Connections<'a, L> {
     }
 
     /// How many places there are.
-    pub fn places(&self) -> usize {
+    pub fn places(&self) -> usize
+        ensures { result ≡ length self.now.places }
+    {
         self.places.len()
     }
 
     /// Whether all connections were served.
-    pub fn is_done(&self) -> bool {
-        self.left == 0 && self.places.iter().all(|place| place.is_none())
+    pub fn is_done(&self) -> bool
+        ensures { IsTrue result ↔ ((self.now.left ≡ 0) × All (λ place. place ≡ None) self.now.places) }
+    {
+        self.left == 0 && are_free(&self.places)
     }
 
     /// The ticks for which nobody is accepted. A clock that went back makes them no more.
-    fn shut_for(&self) -> u64 {
-        let ticks = self.shut.saturating_sub(self.now);
+    fn shut_for(&self) -> u64
+        ensures { result ≡ pause_left self.now }
+    {
+        let ticks = self.shut.saturating_sub(self.moment);
         if ticks < 0 || ticks > PAUSE {
             0
         } else {
@@ -164,7 +269,9 @@ impl<'a, L: ReadyLink + Drop> Connections<'a, L> {
     }
 
     /// Whether the link with this place, or with the number behind them the listener, may do something now.
-    fn is_ready(&self, place: usize) -> bool {
+    fn is_ready(&self, place: usize) -> bool
+        ensures { result ≡ is_ready self.now.ready place }
+    {
         match self.ready.get(place) {
             Some(ready) => *ready,
             None => false,
@@ -172,14 +279,18 @@ impl<'a, L: ReadyLink + Drop> Connections<'a, L> {
     }
 
     /// Notes whether it may.
-    fn note(&mut self, place: usize, is_ready: bool) {
+    fn note(&mut self, place: usize, is_ready: bool)
+        ensures { self.new ≡ record self.old { ready = slice_set self.old.ready place is_ready } }
+    {
         if let Some(ready) = self.ready.get_mut(place) {
             *ready = is_ready;
         }
     }
 
     /// Whether somebody may be accepted, once that is tried again.
-    fn may_accept(&self) -> bool {
+    fn may_accept(&self) -> bool
+        ensures { result ≡ may_accept self.now }
+    {
         self.left > 0 && self.is_ready(self.places.len())
     }
 
@@ -191,7 +302,7 @@ impl<'a, L: ReadyLink + Drop> Connections<'a, L> {
             match place {
                 Some(_) if *ready => return Some(0),
                 Some(place) => {
-                    let left = place.patience_left(self.now, self.patience);
+                    let left = place.patience_left(self.moment, self.patience);
                     least = shorter(least, left);
                 }
                 None => is_free = true,
@@ -212,11 +323,13 @@ impl<'a, L: ReadyLink + Drop> Connections<'a, L> {
         &mut self,
         sockets: &mut S,
         clock: &mut C,
-    ) -> Result<(), LinkFault> {
-        self.now = clock.now();
+    ) -> Result<(), LinkFault>
+        ensures { Waits (C.answered clock.old) (C.answered clock.new) self.old self.new }
+    {
+        self.moment = clock.now();
         let at_most = self.longest_wait();
         let waited = sockets.wait(at_most, &mut self.ready);
-        self.now = clock.now();
+        self.moment = clock.now();
         waited
     }
 
@@ -227,7 +340,25 @@ impl<'a, L: ReadyLink + Drop> Connections<'a, L> {
         sockets: &mut S,
         clock: &mut C,
         place: usize,
-    ) -> Step {
+    ) -> Step
+        ensures steps { Steps (seen_by L.input L.output L.fault_count) (C.answered clock.old) (C.answered clock.new) self.old self.new place result }
+        ensures others { (k : ℕ) → k ≢ place → slice_get self.new.places k ≡ slice_get self.old.places k }
+        ensures stand { AllStand (seen_by L.input L.output L.fault_count) self.old → AllStand (seen_by L.input L.output L.fault_count) self.new }
+        ensures told { AllStand (seen_by L.input L.output L.fault_count) self.old → IsTold (seen_by L.input L.output L.fault_count) self.old place result }
+        ensures numbered { AreNumbered self.old → AreNumbered self.new }
+    {
+        self.step_at(sockets, clock, place)
+    }
+
+    /// The same.
+    fn step_at<S: Sockets<Link = L>, C: Clock>(
+        &mut self,
+        sockets: &mut S,
+        clock: &mut C,
+        place: usize,
+    ) -> Step
+        ensures { Steps (seen_by L.input L.output L.fault_count) (C.answered clock.old) (C.answered clock.new) self.old self.new place result }
+    {
         match self.places.get(place) {
             Some(Some(_)) => self.turn(clock, place),
             Some(None) => self.admit(sockets, clock, place),
@@ -241,7 +372,9 @@ impl<'a, L: ReadyLink + Drop> Connections<'a, L> {
         sockets: &mut S,
         clock: &mut C,
         place: usize,
-    ) -> Step {
+    ) -> Step
+        ensures { Admits (C.answered clock.old) (C.answered clock.new) self.old self.new place result }
+    {
         if !self.may_accept() || self.shut_for() > 0 {
             return Step::Quiet;
         }
@@ -257,10 +390,13 @@ impl<'a, L: ReadyLink + Drop> Connections<'a, L> {
     }
 
     /// Notes that nobody could be accepted, which is tried again after a pause, but not for ever.
-    fn fail(&mut self) -> Step {
+    fn fail(&mut self) -> Step
+        ensures failed { self.new ≡ with_failure self.old }
+        ensures told { result ≡ failure (with_failure self.old) }
+    {
         self.failed = self.failed.saturating_add(1);
         self.in_a_row = self.in_a_row.saturating_add(1);
-        self.shut = self.now.saturating_add(PAUSE);
+        self.shut = self.moment.saturating_add(PAUSE);
         if self.in_a_row < MOST_FAILURES {
             Step::NotAccepted(self.failed)
         } else {
@@ -269,7 +405,10 @@ impl<'a, L: ReadyLink + Drop> Connections<'a, L> {
     }
 
     /// Begins a connection.
-    fn begin(&mut self, link: L, now: i64, place: usize) -> Step {
+    fn begin(&mut self, link: L, now: i64, place: usize) -> Step
+        requires { 0 < self.old.left }
+        ensures { Begins self.old self.new link now place result }
+    {
         self.in_a_row = 0;
         self.left = self.left.saturating_sub(1);
         self.last = self.last.saturating_add(1);
@@ -297,34 +436,18 @@ impl<'a, L: ReadyLink + Drop> Connections<'a, L> {
     }
 
     /// Gives the connection with this place a turn, if it is due, and frees the place where that is its last.
-    fn turn<C: Clock>(&mut self, clock: &mut C, place: usize) -> Step {
+    fn turn<C: Clock>(&mut self, clock: &mut C, place: usize) -> Step
+        ensures { (p : Place L) → HasPlace self.old place p → GoesOn (seen_by L.input L.output L.fault_count) (C.answered clock.old) (C.answered clock.new) self.old self.new place p result }
+    {
         let is_ready = self.is_ready(place);
-        let Some(Some(taken)) = self.places.get_mut(place) else {
+        let Some(seat) = self.places.get_mut(place) else {
             return Step::Quiet;
         };
-        if !is_ready && taken.patience_left(self.now, self.patience) > 0 {
+        if !is_due(seat, is_ready, self.moment, self.patience) {
             return Step::Quiet;
         }
-        let turn = taken.turn(clock, self.patience);
-        let Some(over) = turn.over else {
-            self.note(place, turn.has_moved());
-            return Step::Quiet;
-        };
-        let parted = Parted {
-            id: taken.id,
-            over,
-            read: taken.read,
-            written: taken.written,
-        };
-        self.free(place);
-        Step::Parted(parted)
-    }
-
-    /// Frees a place: its connection and its link are let go of.
-    fn free(&mut self, place: usize) {
-        if let Some(taken) = self.places.get_mut(place) {
-            *taken = None;
-        }
-        self.note(place, false);
+        let (is_ready, step) = turn_at(seat, clock, self.patience);
+        self.note(place, is_ready);
+        step
     }
 }

@@ -1,5 +1,7 @@
 //! Where connections come from, and what says which of them is ready.
 
+ghost use Rattle.ua_serve.specs.Waits.{Wakes};
+
 use ua_link::{LinkFault, ReadyLink};
 
 /// What came of looking for the next connection.
@@ -24,7 +26,8 @@ pub trait Sockets {
     /// # Errors
     ///
     /// `LinkFault` where nothing can be waited for.
-    fn wait(&mut self, at_most: Option<u64>, ready: &mut [bool]) -> Result<(), LinkFault>;
+    fn wait(&mut self, at_most: Option<u64>, ready: &mut [bool]) -> Result<(), LinkFault>
+        ensures { Wakes ready.old ready.new };
 
     /// Takes the next connection that waits, if any does. Its link has this place from then on.
     fn accept(&mut self, place: usize) -> Accepted<Self::Link>;

@@ -1,0 +1,74 @@
+-- Who is accepted, and when.
+use Rattle.std.specs.Prelude.{◌≡◌, ℕ, ◌+◌, ◌-◌, ◌^◌, ◌==◌, ◌&&◌, ℤ, pos, negsuc, ◌+ℤ◌, ◌-ℤ◌, min, Bool, true, false, nat_lt, nat_le, if◌then◌else◌, List, [], ◌∷◌, length, Option, Some, None, slice_set}
+use Rattle.std.specs.Int.{w64, saturate_signed}
+use Rattle.ua_disco.specs.Configuration.{Configuration}
+use Rattle.ua_frame.specs.Streams.{moment_of}
+use Rattle.ua_conn.specs.server.Site.{Site}
+use Rattle.ua_conn.specs.server.Held.{held}
+use Rattle.ua_conn.specs.declared.outcome.End.TheVariants.{NoMemory}
+use Rattle.ua_link.specs.Clock.{Answered}
+use Rattle.ua_link.specs.Connections.{Shown}
+use Rattle.ua_link.specs.declared.connection.Over.TheVariants.{Ended}
+use Rattle.ua_serve.specs.declared.connections.Place.{Place}
+use Rattle.ua_serve.specs.declared.connections.Step.{Step}
+use Rattle.ua_serve.specs.declared.connections.Step.TheVariants.{Quiet, Parted, NotAccepted, Failed}
+use Rattle.ua_serve.specs.Places.{Crowd, is_ready}
+
+-- ticks that are no more than half a second, and 0 for others
+abbrev pub ticks_of : ℤ → ℕ
+ticks_of (pos n) = if nat_le n 5000000 then n else 0
+ticks_of (negsuc n) = 0
+
+-- The ticks for which nobody is accepted yet: those up to the end of the pause. A clock that went back makes them no more.
+abbrev pub pause_left : {L : Type 0} → Crowd L → ℕ
+pause_left c = ticks_of (c.shut -ℤ c.moment)
+
+-- some connection is still to be accepted, and somebody may wait in the listener
+abbrev pub may_accept : {L : Type 0} → Crowd L → Bool
+may_accept c = nat_lt 0 c.left && is_ready c.ready (length c.places)
+
+-- and the pause is over
+abbrev pub can_accept : {L : Type 0} → Crowd L → Bool
+can_accept c = may_accept c && (pause_left c == 0)
+
+-- behind one connection more
+abbrev pub with_one : {L : Type 0} → Crowd L → Crowd L
+with_one c = record c { left = c.left - 1; last = c.last + 1; in_a_row = 0 }
+
+-- behind one failure more: nobody is accepted for half a second
+abbrev pub with_failure : {L : Type 0} → Crowd L → Crowd L
+with_failure c = record c { failed = min (c.failed + 1) (2 ^ 64 - 1); in_a_row = min (c.in_a_row + 1) (2 ^ 32 - 1); shut = saturate_signed w64 (c.moment +ℤ pos 5000000) }
+
+-- a connection that begins at a moment, which was told nothing and owes nothing
+abbrev pub new_connection : Configuration → ℕ → ℤ → Shown
+new_connection settings id now = let site : Site = record { settings = settings; channel = id } in
+    record { server = record { site = site; held = held site []; failed = false }; owed = []; ending = None; left = 65536; latest = moment_of now; active = moment_of now }
+
+-- its place
+abbrev pub new_place : {L : Type 0} → Crowd L → L → ℤ → Place L
+new_place c link now = record { id = c.last + 1; link = link; connection = new_connection c.settings (c.last + 1) now; read = 0; written = 0 }
+
+abbrev pub with_place : {L : Type 0} → Crowd L → ℕ → Place L → Crowd L
+with_place c place p = record c { places = slice_set c.places place (Some p); ready = slice_set c.ready place true }
+
+-- what is told of a failure: how many there were, and the hundredth in a row ends all
+abbrev pub failure : {L : Type 0} → Crowd L → Step
+failure c = if nat_lt c.in_a_row 100 then NotAccepted c.failed else Failed
+
+-- What the next connection came to: it gets the place, or there is no memory for it, which ends it alone.
+abbrev pub Begins : {L : Type 0} → Crowd L → Crowd L → L → ℤ → ℕ → Step → Type 0
+Begins old new link now place Quiet = new ≡ with_place (with_one old) place (new_place old link now)
+Begins old new link now place (Parted parted) = (new ≡ with_one old) × (parted ≡ record { id = old.last + 1; over = Ended NoMemory; read = 0; written = 0 })
+Begins old new link now place (NotAccepted n) = ⊥
+Begins old new link now place Failed = ⊥
+
+-- What a free place came to.
+pub data Admits {L : Type 0} (asked asked' : Option (List ℤ)) (old new : Crowd L) (place : ℕ) (step : Step) : Type 0 where
+  -- nobody is accepted now
+  shut : can_accept old ≡ false → asked' ≡ asked → new ≡ old → step ≡ Quiet → Admits asked asked' old new place step
+  -- nobody waits
+  nobody : can_accept old ≡ true → asked' ≡ asked → new ≡ record old { ready = slice_set old.ready (length old.places) false } → step ≡ Quiet → Admits asked asked' old new place step
+  -- accepting failed
+  failed : can_accept old ≡ true → asked' ≡ asked → new ≡ with_failure old → step ≡ failure (with_failure old) → Admits asked asked' old new place step
+  -- the next connection was accepted
+  begun : can_accept old ≡ true → (link : L) (now : ℤ) → Answered asked asked' (now ∷ []) → Begins old new link now place step → Admits asked asked' old new place step

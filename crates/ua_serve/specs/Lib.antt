@@ -1,0 +1,5 @@
+pub mod Places
+pub mod Turn
+pub mod Admission
+pub mod Steps
+pub mod Waits
