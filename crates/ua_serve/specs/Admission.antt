@@ -7,7 +7,8 @@ use Rattle.ua_conn.specs.server.Site.{Site}
 use Rattle.ua_conn.specs.server.Held.{held}
 use Rattle.ua_conn.specs.declared.outcome.End.TheVariants.{NoMemory}
 use Rattle.ua_link.specs.Clock.{Answered}
-use Rattle.ua_link.specs.Connections.{Shown}
+use Rattle.ua_link.specs.Turns.{Seen}
+use Rattle.ua_link.specs.Connections.{Shown, Standing}
 use Rattle.ua_link.specs.declared.connection.Over.TheVariants.{Ended}
 use Rattle.ua_serve.specs.declared.connections.Place.{Place}
 use Rattle.ua_serve.specs.declared.connections.Step.{Step}
@@ -48,6 +49,10 @@ new_connection settings id now = let site : Site = record { settings = settings;
 abbrev pub new_place : {L : Type 0} → Crowd L → L → ℤ → Place L
 new_place c link now = record { id = c.last + 1; link = link; connection = new_connection c.settings (c.last + 1) now; read = 0; written = 0 }
 
+-- it stands, and did nothing yet
+abbrev pub IsFresh : {L : Type 0} → Crowd L → ℤ → Type 0
+IsFresh c now = (s : Seen) → Standing (record { settings = c.settings; channel = c.last + 1 }) 65536 (new_connection c.settings (c.last + 1) now) [] 0 s s
+
 abbrev pub with_place : {L : Type 0} → Crowd L → ℕ → Place L → Crowd L
 with_place c place p = record c { places = slice_set c.places place (Some p); ready = slice_set c.ready place true }
 
@@ -57,7 +62,7 @@ failure c = if nat_lt c.in_a_row 100 then NotAccepted c.failed else Failed
 
 -- What the next connection came to: it gets the place, or there is no memory for it, which ends it alone.
 abbrev pub Begins : {L : Type 0} → Crowd L → Crowd L → L → ℤ → ℕ → Step → Type 0
-Begins old new link now place Quiet = new ≡ with_place (with_one old) place (new_place old link now)
+Begins old new link now place Quiet = (new ≡ with_place (with_one old) place (new_place old link now)) × IsFresh old now
 Begins old new link now place (Parted parted) = (new ≡ with_one old) × (parted ≡ record { id = old.last + 1; over = Ended NoMemory; read = 0; written = 0 })
 Begins old new link now place (NotAccepted n) = ⊥
 Begins old new link now place Failed = ⊥
