@@ -1,5 +1,7 @@
 //! Sockets of TCP, over the readiness that the system reports.
 
+ghost use Rattle.ua_serve.specs.Waits.{Wakes};
+
 use crate::sockets::{Accepted, Sockets};
 use mio::net::{TcpListener, TcpStream};
 use mio::{Events, Interest, Poll, Token};
@@ -70,9 +72,11 @@ fn duration_of(ticks: u64) -> Duration {
 }
 
 /// Notes that the link with this place, or the listener, is ready.
-fn note(ready: &mut [bool], place: usize) {
-    if let Some(mark) = ready.get_mut(place) {
-        *mark = true;
+fn note(ready: &mut [bool], place: usize)
+    ensures { Wakes ready.old ready.new }
+{
+    if place < ready.len() {
+        ready[place] = true;
     }
 }
 
