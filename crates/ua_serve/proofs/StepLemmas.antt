@@ -156,8 +156,9 @@ new_stands seen old link now fresh = record { began = seen link; cuts = []; sent
 begun_stands : {L : Type 0} (seen : L → Seen) (old new : Crowd L) (link : L) (now : ℤ) (place : ℕ) (step : Step) → Begins old new link now place step → AllStand seen old → AllStand seen new
 begun_stands {L} seen old new link now place Quiet b all = subst (λ (c : Crowd L). AllStand seen c) (sym b.0) (λ k q has.
     elim (set_cases old.places place (Some (new_place old link now)) k (Some q) has) [
-      inl h ↦ subst (λ (p : Place L). Stands seen old.settings p) (ap (λ o. unwrap_or o q) h.1) (new_stands seen old link now b.1)
-    | inr h ↦ all k q h ])
+      | inl h ↦ subst (λ (p : Place L). Stands seen old.settings p) (ap (λ o. unwrap_or o q) h.1) (new_stands seen old link now b.1)
+      | inr h ↦ all k q h
+    ])
 begun_stands {L} seen old new link now place (Parted parted) b all = subst (λ (c : Crowd L). AllStand seen c) (sym b.0) all
 begun_stands seen old new link now place (NotAccepted n) b all = absurd b
 begun_stands seen old new link now place Failed b all = absurd b
@@ -172,9 +173,10 @@ turn_stands : {L : Type 0} (seen : L → Seen) (asked asked' : Option (List ℤ)
     AllStand seen new
 turn_stands {L} seen asked asked' old new place p step there (inl t) all = subst (λ (c : Crowd L). AllStand seen c) (sym t.after) (λ k q has.
     elim (set_cases old.places place (kept t.now t.turn.over) k (Some q) has) [
-      inl h ↦ let goes = kept_is t.now q t.turn.over h.1 in
+      | inl h ↦ let goes = kept_is t.now q t.turn.over h.1 in
           subst (λ (r : Place L). Stands seen old.settings r) goes.1 (kept_stands seen old.settings old.patience asked asked' p t.now t.turn t.takes goes.0 (all place p there))
-    | inr h ↦ all k q h ])
+      | inr h ↦ all k q h
+    ])
 turn_stands {L} seen asked asked' old new place p step there (inr r) all = subst (λ (c : Crowd L). AllStand seen c) (sym r.same) all
 
 stand_from : {L : Type 0} (seen : L → Seen) (asked asked' : Option (List ℤ)) (old new : Crowd L) (place : ℕ) (step : Step) (there : Option (Option (Place L))) → slice_get old.places place ≡ there →
@@ -244,18 +246,23 @@ numbered_same {L} old new is n = subst (λ (c : Crowd L). AreNumbered c) (sym is
 numbered_more : {L : Type 0} (old : Crowd L) (place : ℕ) (p : Place L) → p.id ≡ old.last + 1 → AreNumbered old → AreNumbered (with_place (with_one old) place p)
 numbered_more {L} old place p id n = record {
   positive = λ k q has. elim (set_cases old.places place (Some p) k (Some q) has) [
-      inl h ↦ let e = ap (λ (r : Place L). r.id) (ap (λ o. unwrap_or o q) h.1) in omega (arith, e, id)
-    | inr h ↦ n.positive k q h ];
+    | inl h ↦ let e = ap (λ (r : Place L). r.id) (ap (λ o. unwrap_or o q) h.1) in omega (arith, e, id)
+    | inr h ↦ n.positive k q h
+  ];
   accepted = λ k q has. elim (set_cases old.places place (Some p) k (Some q) has) [
-      inl h ↦ let e = ap (λ (r : Place L). r.id) (ap (λ o. unwrap_or o q) h.1) in omega (arith, e, id)
-    | inr h ↦ let most = n.accepted k q h in omega (arith, most) ];
+    | inl h ↦ let e = ap (λ (r : Place L). r.id) (ap (λ o. unwrap_or o q) h.1) in omega (arith, e, id)
+    | inr h ↦ let most = n.accepted k q h in omega (arith, most)
+  ];
   different = λ j k q r hq hr e. elim (set_cases old.places place (Some p) j (Some q) hq) [
-      inl a ↦ elim (set_cases old.places place (Some p) k (Some r) hr) [
-          inl b ↦ a.0 ∙ sym b.0
-        | inr b ↦ absurd (let i = ap (λ (s : Place L). s.id) (ap (λ o. unwrap_or o q) a.1) in let most = n.accepted k r b in omega (arith, i, id, most, e)) ]
+    | inl a ↦ elim (set_cases old.places place (Some p) k (Some r) hr) [
+      | inl b ↦ a.0 ∙ sym b.0
+      | inr b ↦ absurd (let i = ap (λ (s : Place L). s.id) (ap (λ o. unwrap_or o q) a.1) in let most = n.accepted k r b in omega (arith, i, id, most, e))
+    ]
     | inr a ↦ elim (set_cases old.places place (Some p) k (Some r) hr) [
-          inl b ↦ absurd (let i = ap (λ (s : Place L). s.id) (ap (λ o. unwrap_or o r) b.1) in let most = n.accepted j q a in omega (arith, i, id, most, e))
-        | inr b ↦ n.different j k q r a b e ] ];
+      | inl b ↦ absurd (let i = ap (λ (s : Place L). s.id) (ap (λ o. unwrap_or o r) b.1) in let most = n.accepted j q a in omega (arith, i, id, most, e))
+      | inr b ↦ n.different j k q r a b e
+    ]
+  ];
 }
 
 numbered_one : {L : Type 0} (old : Crowd L) → AreNumbered old → AreNumbered (with_one old)
@@ -281,9 +288,10 @@ turn_numbered : {L : Type 0} (seen : L → Seen) (asked asked' : Option (List �
     AreNumbered new
 turn_numbered {L} seen asked asked' old new place p step there (inl t) n = numbered_by old new (ap (λ (c : Crowd L). c.last) t.after) (λ k q has.
     elim (set_cases old.places place (kept t.now t.turn.over) k (Some q) (ap (λ (c : Crowd L). slice_get c.places k) (sym t.after) ∙ has)) [
-      inl h ↦ let goes = kept_is t.now q t.turn.over h.1 in
+      | inl h ↦ let goes = kept_is t.now q t.turn.over h.1 in
           record { was = p; there = ap (slice_get old.places) h.0 ∙ there; id = ap (λ (r : Place L). r.id) (sym goes.1) ∙ id_kept seen old.settings old.patience asked asked' p t.now t.turn t.takes }
-    | inr h ↦ record { was = q; there = h; id = refl } ]) n
+      | inr h ↦ record { was = q; there = h; id = refl }
+    ]) n
 turn_numbered seen asked asked' old new place p step there (inr r) n = numbered_same old new r.same n
 
 numbered_from : {L : Type 0} (seen : L → Seen) (asked asked' : Option (List ℤ)) (old new : Crowd L) (place : ℕ) (step : Step) (there : Option (Option (Place L))) → slice_get old.places place ≡ there →

@@ -6,7 +6,7 @@ ghost use Rattle.ua_frame.specs.Streams.{moment_of};
 ghost use Rattle.ua_serve.specs.declared.connections.Place.{Place};
 ghost use Rattle.ua_serve.specs.Places.{is_ready, HasPlace, AreNumbered};
 ghost use Rattle.ua_serve.specs.Turn.{seen_by, came, HasTurn, Takes};
-ghost use Rattle.ua_serve.specs.Admission.{Admits, Begins, pause_left, may_accept, with_failure, failure};
+ghost use Rattle.ua_serve.specs.Admission.{Admits, Begins, pause_left, may_accept, with_one, with_failure, failure};
 ghost use Rattle.ua_serve.specs.Steps.{Moves, is_due, Steps, GoesOn, AllStand, IsTold};
 ghost use Rattle.ua_serve.specs.Waits.{Waits};
 
@@ -404,15 +404,24 @@ impl<'a, L: ReadyLink + Drop> Connections<'a, L> {
         }
     }
 
+    /// Notes that one connection more was accepted, and gives its id.
+    fn count_one(&mut self) -> u32
+        requires { 0 < self.old.left }
+        ensures counted { self.new ≡ with_one self.old }
+        ensures id { result ≡ self.old.last + 1 }
+    {
+        self.in_a_row = 0;
+        self.left = self.left.saturating_sub(1);
+        self.last = self.last.saturating_add(1);
+        self.last
+    }
+
     /// Begins a connection.
     fn begin(&mut self, link: L, now: i64, place: usize) -> Step
         requires { 0 < self.old.left }
         ensures { Begins self.old self.new link now place result }
     {
-        self.in_a_row = 0;
-        self.left = self.left.saturating_sub(1);
-        self.last = self.last.saturating_add(1);
-        let id = self.last;
+        let id = self.count_one();
         let Ok(connection) = ServerConnection::new(self.alloc, self.settings, id, now, TURNS) else {
             let_go(link);
             return Step::Parted(Parted {
