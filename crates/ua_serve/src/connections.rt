@@ -1,6 +1,6 @@
 //! The connections of a server that has several at once, each with a place.
 
-ghost use Rattle.std.specs.Prelude.{◌≡◌, ◌≢◌, ◌+◌, ◌-◌, ◌^◌, ◌<◌, ◌↔◌, ℕ, pos, max, length, replicate, None, Some, true, false, slice_get, slice_set, IsTrue, All, IfOk};
+ghost use Rattle.std.specs.Prelude.{◌≡◌, ◌≢◌, ◌+◌, ◌-◌, ◌^◌, ◌<◌, ◌↔◌, ◌⊎◌, ℕ, pos, max, length, replicate, None, Some, true, false, slice_get, slice_set, IsTrue, All, IfOk};
 ghost use Rattle.ua_disco.specs.Configuration.{Configuration};
 ghost use Rattle.ua_frame.specs.Streams.{moment_of};
 ghost use Rattle.ua_serve.specs.declared.connections.Place.{Place};
@@ -8,7 +8,7 @@ ghost use Rattle.ua_serve.specs.Places.{is_ready, HasPlace, AreNumbered};
 ghost use Rattle.ua_serve.specs.Turn.{seen_by, came, HasTurn, Takes};
 ghost use Rattle.ua_serve.specs.Admission.{Admits, Begins, pause_left, may_accept, with_one, with_failure, failure};
 ghost use Rattle.ua_serve.specs.Steps.{Moves, is_due, Steps, GoesOn, AllStand, IsTold};
-ghost use Rattle.ua_serve.specs.Waits.{Waits};
+ghost use Rattle.ua_serve.specs.Waits.{IsWithin, due_in, IsSoonest, Waits};
 
 use crate::sockets::{Accepted, Sockets};
 use std::alloc::Global;
@@ -198,10 +198,17 @@ fn are_free<L>(places: &[Option<Place<L>>]) -> bool
 }
 
 /// The lesser of two numbers of ticks, where none is no limit.
-fn shorter(least: Option<u64>, ticks: u64) -> Option<u64> {
-    match least {
-        Some(least) => Some(least.min(ticks)),
-        None => Some(ticks),
+fn sooner(first: Option<u64>, second: Option<u64>) -> Option<u64>
+    ensures first { (n : ℕ) → IsWithin first n → IsWithin result n }
+    ensures second { (n : ℕ) → second ≡ Some n → IsWithin result n }
+    ensures one { (n : ℕ) → result ≡ Some n → (first ≡ Some n) ⊎ (second ≡ Some n) }
+{
+    match first {
+        None => second,
+        Some(n) => match second {
+            None => Some(n),
+            Some(m) => Some(n.min(m)),
+        },
     }
 }
 
@@ -294,22 +301,25 @@ impl<'a, L: ReadyLink + Drop> Connections<'a, L> {
         self.left > 0 && self.is_ready(self.places.len())
     }
 
-    /// The ticks after which something is to be done even if nothing is ready then.
-    fn longest_wait(&self) -> Option<u64> {
-        let mut least = None;
-        let mut is_free = false;
-        'places: for (place, ready) in self.places.iter().zip(self.ready.iter()) {
-            match place {
-                Some(_) if *ready => return Some(0),
-                Some(place) => {
-                    let left = place.patience_left(self.moment, self.patience);
-                    least = shorter(least, left);
-                }
-                None => is_free = true,
-            }
+    /// The ticks after which the place with this number is to have a step even if nothing becomes ready, if it is.
+    fn due_in(&self, place: usize) -> Option<u64>
+        ensures { result ≡ due_in self.now place }
+    {
+        match self.places.get(place) {
+            Some(Some(_)) if self.is_ready(place) => Some(0),
+            Some(Some(taken)) => Some(taken.patience_left(self.moment, self.patience)),
+            Some(None) if self.may_accept() => Some(self.shut_for()),
+            _ => None,
         }
-        if is_free && self.may_accept() {
-            least = shorter(least, self.shut_for());
+    }
+
+    /// The ticks after which something is to be done even if nothing becomes ready.
+    fn longest_wait(&self) -> Option<u64>
+        ensures { IsSoonest self.now result }
+    {
+        let mut least = None;
+        'places: for place in 0..self.places.len() {
+            least = sooner(least, self.due_in(place));
         }
         least
     }
@@ -324,7 +334,7 @@ impl<'a, L: ReadyLink + Drop> Connections<'a, L> {
         sockets: &mut S,
         clock: &mut C,
     ) -> Result<(), LinkFault>
-        ensures { Waits (C.answered clock.old) (C.answered clock.new) self.old self.new }
+        ensures { Waits (C.answered clock.old) (C.answered clock.new) (S.waited sockets.old) (S.waited sockets.new) self.old self.new }
     {
         self.moment = clock.now();
         let at_most = self.longest_wait();

@@ -1,6 +1,7 @@
 //! Where connections come from, and what says which of them is ready.
 
-ghost use Rattle.ua_serve.specs.Waits.{Wakes};
+ghost use Rattle.std.specs.Prelude.{ℕ, List, Option, None};
+ghost use Rattle.ua_serve.specs.Waits.{IsNoted, Wakes};
 
 use ua_link::{LinkFault, ReadyLink};
 
@@ -19,6 +20,9 @@ pub enum Accepted<L> {
 pub trait Sockets {
     type Link: ReadyLink + Drop;
 
+    /// How long each wait could last, in their order, where that is known: sockets may keep no record, or lose it.
+    ghost waited: { Self → Option (List (Option ℕ)) } = { λ _. None };
+
     /// Waits until something is ready, but no longer than so many ticks of 100 ns, or however long that takes without
     /// them. `ready` has an entry for each place, and one behind them for the listener: those become true whose link, or
     /// listener, may do something now. The others stay as they are.
@@ -27,7 +31,8 @@ pub trait Sockets {
     ///
     /// `LinkFault` where nothing can be waited for.
     fn wait(&mut self, at_most: Option<u64>, ready: &mut [bool]) -> Result<(), LinkFault>
-        ensures { Wakes ready.old ready.new };
+        ensures waits { IsNoted (waited self.old) (waited self.new) at_most }
+        ensures wakes { Wakes ready.old ready.new };
 
     /// Takes the next connection that waits, if any does. Its link has this place from then on.
     fn accept(&mut self, place: usize) -> Accepted<Self::Link>;
