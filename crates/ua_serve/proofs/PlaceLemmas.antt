@@ -1,5 +1,5 @@
 -- A list in which one entry is another.
-use Rattle.std.proofs.Common.{◌≡◌, ◌≢◌, ◌⊎◌, inl, inr, ℕ, zero, suc, List, [], ◌∷◌, Option, Some, unwrap_or, slice_get, slice_set, refl, sym, ap, ◌∙◌}
+use Rattle.std.proofs.Common.{◌≡◌, ◌≢◌, ◌⊎◌, inl, inr, ℕ, zero, suc, List, [], ◌∷◌, Option, Some, None, replicate, unwrap_or, slice_get, slice_set, refl, sym, ap, ◌∙◌}
 
 module _ {A : Type 0} where
   -- An entry of it is the new one, or was there before.
@@ -23,3 +23,9 @@ module _ {A : Type 0} where
   set_same [] i v e = refl
   set_same (x ∷ xs) zero v e = ap (λ o. unwrap_or o v ∷ xs) (sym e)
   set_same (x ∷ xs) (suc i) v e = ap (λ ys. x ∷ ys) (set_same xs i v e)
+
+-- where all places are free no connection has one
+pub none_placed : {A : Type 0} (n k : ℕ) (p : A) → slice_get (replicate n None) k ≡ Some (Some p) → ⊥
+none_placed zero k p e = cc
+none_placed (suc n) zero p e = cc
+none_placed (suc n) (suc k) p e = none_placed n k p e

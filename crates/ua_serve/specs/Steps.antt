@@ -1,5 +1,5 @@
 -- One step of the connections: what the place with a number came to.
-use Rattle.std.specs.Prelude.{◌≡◌, ℕ, ◌+◌, ◌-◌, ◌^◌, ◌==◌, ◌||◌, ◌⊎◌, ℤ, max, Bool, true, false, List, length, Option, Some, None, slice_get, slice_set}
+use Rattle.std.specs.Prelude.{◌≡◌, ℕ, ◌+◌, ◌-◌, ◌^◌, ◌==◌, ◌&&◌, ◌||◌, ◌⊎◌, ℤ, max, Bool, true, false, List, length, Option, Some, None, slice_get, slice_set}
 use Rattle.ua_disco.specs.Configuration.{Configuration}
 use Rattle.ua_frame.specs.Streams.{moment_of}
 use Rattle.ua_conn.specs.server.Site.{Site}
@@ -16,7 +16,7 @@ use Rattle.ua_serve.specs.declared.connections.Step.{Step}
 use Rattle.ua_serve.specs.declared.connections.Step.TheVariants.{Quiet, Parted, NotAccepted, Failed}
 use Rattle.ua_serve.specs.Places.{Crowd, HasPlace, is_ready}
 use Rattle.ua_serve.specs.Turn.{Takes, Stands, counted}
-use Rattle.ua_serve.specs.Admission.{Admits}
+use Rattle.ua_serve.specs.Admission.{Admits, can_accept}
 
 -- Whether a connection is given a turn at a moment: its link may do something, or its client was quiet for too long.
 abbrev pub is_due : {L : Type 0} → Option (Place L) → Bool → ℤ → ℕ → Bool
@@ -88,6 +88,15 @@ StepsFrom (Some (Some p)) seen asked asked' old new place step = GoesOn seen ask
 
 abbrev pub Steps : {L : Type 0} → (L → Seen) → Option (List ℤ) → Option (List ℤ) → Crowd L → Crowd L → ℕ → Step → Type 0
 Steps seen asked asked' old new place step = StepsFrom (slice_get old.places place) seen asked asked' old new place step
+
+abbrev pub is_free : {L : Type 0} → Option (Option (Place L)) → Bool
+is_free None = false
+is_free (Some None) = true
+is_free (Some (Some p)) = false
+
+-- whether a connection is looked for at a place: it is free, and somebody can be accepted
+abbrev pub seeks : {L : Type 0} → Crowd L → ℕ → Bool
+seeks c place = is_free (slice_get c.places place) && can_accept c
 
 -- All connections at the places stand: what went out over the link of each is a beginning of the reply to what it read
 -- itself.

@@ -6,9 +6,9 @@ ghost use Rattle.ua_frame.specs.Streams.{moment_of};
 ghost use Rattle.ua_serve.specs.declared.connections.Place.{Place};
 ghost use Rattle.ua_serve.specs.Places.{is_ready, HasPlace, AreNumbered};
 ghost use Rattle.ua_serve.specs.Turn.{seen_by, came, HasTurn, Takes};
-ghost use Rattle.ua_serve.specs.Admission.{Admits, Begins, pause_left, may_accept, with_one, with_failure, failure};
-ghost use Rattle.ua_serve.specs.Steps.{Moves, is_due, Steps, GoesOn, AllStand, IsTold};
-ghost use Rattle.ua_serve.specs.Waits.{IsWithin, due_in, IsSoonest, Waits};
+ghost use Rattle.ua_serve.specs.Admission.{Admits, Begins, pause_left, may_accept, can_accept, with_one, with_failure, failure};
+ghost use Rattle.ua_serve.specs.Steps.{seeks, Moves, is_due, Steps, GoesOn, AllStand, IsTold};
+ghost use Rattle.ua_serve.specs.Waits.{IsNoted, IsWithin, due_in, IsSoonest, Waits};
 
 use crate::sockets::{Accepted, Sockets};
 use std::alloc::Global;
@@ -226,7 +226,9 @@ impl<'a, L: ReadyLink + Drop> Connections<'a, L> {
         at_once: u32,
         patience: u64,
     ) -> Result<Connections<'a, L>, NoMemory>
-        ensures { IfOk result (λ c. c ≡ record { settings = settings.now; places = replicate at_once None; ready = replicate (at_once + 1) true; patience = patience; left = wanted; last = 0; moment = pos 0; shut = pos 0; failed = 0; in_a_row = 0 }) }
+        ensures new { IfOk result (λ c. c ≡ record { settings = settings.now; places = replicate at_once None; ready = replicate (at_once + 1) true; patience = patience; left = wanted; last = 0; moment = pos 0; shut = pos 0; failed = 0; in_a_row = 0 }) }
+        ensures stand { IfOk result (λ c. AllStand (seen_by L.input L.output L.fault_count) c) }
+        ensures numbered { IfOk result AreNumbered }
     {
         let at_once = at_once as usize;
         let ready = Vec::from_elem(alloc, true, at_once + 1)?;
@@ -324,7 +326,8 @@ impl<'a, L: ReadyLink + Drop> Connections<'a, L> {
         least
     }
 
-    /// Waits until something is ready, or some client was quiet for too long.
+    /// Waits until something is ready, or some client was quiet for too long, or the pause is over in which nobody is
+    /// accepted. No place changes.
     ///
     /// # Errors
     ///
@@ -334,7 +337,8 @@ impl<'a, L: ReadyLink + Drop> Connections<'a, L> {
         sockets: &mut S,
         clock: &mut C,
     ) -> Result<(), LinkFault>
-        ensures { Waits (C.answered clock.old) (C.answered clock.new) (S.waited sockets.old) (S.waited sockets.new) self.old self.new }
+        ensures sought { S.sought sockets.new ≡ S.sought sockets.old }
+        ensures waits { Waits (C.answered clock.old) (C.answered clock.new) (S.waited sockets.old) (S.waited sockets.new) self.old self.new }
     {
         self.moment = clock.now();
         let at_most = self.longest_wait();
@@ -343,8 +347,16 @@ impl<'a, L: ReadyLink + Drop> Connections<'a, L> {
         waited
     }
 
-    /// Gives the place with this number a step: where it is free, the next connection that waits takes it; where it is
-    /// taken, and its link is ready or its client was quiet for too long, the connection has a turn.
+    /// Gives the place with this number a step, which changes no other place.
+    ///
+    /// Where it is free, somebody is still to be accepted and may wait in the listener, and no pause is kept, the next
+    /// connection that waits takes it: its id is one more than that of the last one. Where it is taken, the connection has a
+    /// turn over its own link, if that is ready or its client was quiet for too long. It keeps its place, or is over: then
+    /// the place is free, and what is told of it is its id, how it is over and how many bytes came and went. Of each
+    /// connection that has a place what went out is a beginning of the reply to what came, each read at its moment, and so
+    /// it is of one that is over; a link that failed 2^64 - 1 times before is given up, with no turn. Without memory for it a
+    /// connection is over before it begins, and no other one is. Behind a failure to accept nobody is accepted for half a
+    /// second; the hundredth in a row is told as `Failed`. OPC 10000-6, 6.7 and 7.1.
     pub fn step<S: Sockets<Link = L>, C: Clock>(
         &mut self,
         sockets: &mut S,
@@ -356,18 +368,24 @@ impl<'a, L: ReadyLink + Drop> Connections<'a, L> {
         ensures stand { AllStand (seen_by L.input L.output L.fault_count) self.old → AllStand (seen_by L.input L.output L.fault_count) self.new }
         ensures told { AllStand (seen_by L.input L.output L.fault_count) self.old → IsTold (seen_by L.input L.output L.fault_count) self.old place result }
         ensures numbered { AreNumbered self.old → AreNumbered self.new }
+        ensures seeks { seeks self.old place ≡ true → IsNoted (S.sought sockets.old) (S.sought sockets.new) place }
+        ensures looks_away { seeks self.old place ≡ false → S.sought sockets.new ≡ S.sought sockets.old }
+        ensures waited { S.waited sockets.new ≡ S.waited sockets.old }
     {
         self.step_at(sockets, clock, place)
     }
 
-    /// The same.
+    /// Gives the place with this number that step, of which `step` says what it makes of all places.
     fn step_at<S: Sockets<Link = L>, C: Clock>(
         &mut self,
         sockets: &mut S,
         clock: &mut C,
         place: usize,
     ) -> Step
-        ensures { Steps (seen_by L.input L.output L.fault_count) (C.answered clock.old) (C.answered clock.new) self.old self.new place result }
+        ensures steps { Steps (seen_by L.input L.output L.fault_count) (C.answered clock.old) (C.answered clock.new) self.old self.new place result }
+        ensures seeks { seeks self.old place ≡ true → IsNoted (S.sought sockets.old) (S.sought sockets.new) place }
+        ensures looks_away { seeks self.old place ≡ false → S.sought sockets.new ≡ S.sought sockets.old }
+        ensures waited { S.waited sockets.new ≡ S.waited sockets.old }
     {
         match self.places.get(place) {
             Some(Some(_)) => self.turn(clock, place),
@@ -383,7 +401,10 @@ impl<'a, L: ReadyLink + Drop> Connections<'a, L> {
         clock: &mut C,
         place: usize,
     ) -> Step
-        ensures { Admits (C.answered clock.old) (C.answered clock.new) self.old self.new place result }
+        ensures admits { Admits (C.answered clock.old) (C.answered clock.new) self.old self.new place result }
+        ensures seeks { can_accept self.old ≡ true → IsNoted (S.sought sockets.old) (S.sought sockets.new) place }
+        ensures looks_away { can_accept self.old ≡ false → S.sought sockets.new ≡ S.sought sockets.old }
+        ensures waited { S.waited sockets.new ≡ S.waited sockets.old }
     {
         if !self.may_accept() || self.shut_for() > 0 {
             return Step::Quiet;

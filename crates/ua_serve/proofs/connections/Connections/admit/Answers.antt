@@ -5,8 +5,8 @@ use Rattle.ua_serve.specs.Admission.{begun}
 use Rattle.ua_serve.proofs.StepLemmas.{can}
 use Rattle.ua_serve.proofs.connections.Connections.admit.Goals as goal
 
-pub returns-in-Link : goal.returns-in-Link
-returns-in-Link g c =
+pub returns-in-Link-clause-admits : goal.returns-in-Link-clause-admits
+returns-in-Link-clause-admits g c =
     let now = c.now.result in
     let fits : SFits w64 now = search rules in
     let begins = simp to_z-of_z at c.begin.ensures in

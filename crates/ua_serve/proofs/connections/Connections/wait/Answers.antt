@@ -4,8 +4,8 @@ use mir.Val.{SFits}
 use Rattle.ua_serve.proofs.WaitLemmas.{asked_twice, wakes_all}
 use Rattle.ua_serve.proofs.connections.Connections.wait.Goals as goal
 
-pub returns : goal.returns
-returns g c =
+pub returns-clause-waits : goal.returns-clause-waits
+returns-clause-waits g c =
     let before = c.now-self-inside.result in
     let after = c.now-self-inside-2.result in
     let fits : SFits w64 before = search rules in
