@@ -1,5 +1,5 @@
 -- A list in which one entry is another.
-use Rattle.std.proofs.Common.{◌≡◌, ◌≢◌, ◌⊎◌, inl, inr, ℕ, zero, suc, List, [], ◌∷◌, Option, Some, None, replicate, unwrap_or, slice_get, slice_set, refl, sym, ap, ◌∙◌}
+use Rattle.std.proofs.Common.{◌≡◌, ◌≢◌, ◌⊎◌, inl, inr, ℕ, zero, suc, List, [], ◌∷◌, Some, None, replicate, unwrap_or, slice_get, slice_set, refl, sym, ap}
 
 module _ {A : Type 0} where
   -- An entry of it is the new one, or was there before.

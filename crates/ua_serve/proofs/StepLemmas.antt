@@ -1,22 +1,19 @@
 -- What a step makes of all places.
-use Rattle.std.proofs.Common.{arith, ◌≡◌, ◌≢◌, ◌⊎◌, inl, inr, ℕ, zero, suc, min, ◌+◌, ◌-◌, ◌^◌, ◌<◌, ◌≤◌, nat_lt, if◌then◌else◌, ◌&&◌, ◌==◌, ℤ, Bool, true, false, List, [], ◌∷◌, ◌++◌, length, Option, Some, None, unwrap_or, is_some, slice_get, slice_set, refl, sym, ap, subst, ◌∙◌}
+use Rattle.std.proofs.Common.{arith, ◌≡◌, inl, inr, ℕ, ◌+◌, ◌≤◌, nat_lt, if◌then◌else◌, ◌&&◌, ◌==◌, ℤ, Bool, true, false, List, [], ◌∷◌, Option, Some, None, unwrap_or, slice_get, slice_set, refl, sym, ap, subst, ◌∙◌}
 use Rattle.ua_disco.specs.Configuration.{Configuration}
-use Rattle.ua_conn.specs.server.Site.{Site}
-use Rattle.ua_conn.specs.declared.outcome.End.TheVariants.{NoMemory, LinkFailed}
 use Rattle.ua_link.specs.Reads.{Cut, total}
 use Rattle.ua_link.specs.Turns.{Seen}
 use Rattle.ua_link.specs.Reports.{cuts_with}
-use Rattle.ua_link.specs.Connections.{Shown, Standing, Leaves, has_moved}
+use Rattle.ua_link.specs.Connections.{Standing, Leaves, has_moved}
 use Rattle.ua_link.specs.declared.connection.Over.{Over}
-use Rattle.ua_link.specs.declared.connection.Over.TheVariants.{Ended}
 use Rattle.ua_link.specs.declared.connection.ReadyTurn.{ReadyTurn}
 use Rattle.ua_serve.specs.declared.connections.Place.{Place}
 use Rattle.ua_serve.specs.declared.connections.Step.{Step}
 use Rattle.ua_serve.specs.declared.connections.Step.TheVariants.{Quiet, Parted, NotAccepted, Failed}
 use Rattle.ua_serve.specs.Places.{Crowd, HasPlace, AreNumbered, is_ready}
 use Rattle.ua_serve.specs.Admission.{Admits, shut, nobody, failed, begun, Begins, IsFresh, new_place, with_place, with_one, with_failure, failure, may_accept, pause_left, can_accept}
-use Rattle.ua_serve.proofs.PlaceLemmas.{set_cases, set_other, set_same}
-use Rattle.ua_serve.specs.Turn.{Takes, HasTurn, IsGivenUp, Stands, counted, came, site_of}
+use Rattle.ua_serve.proofs.PlaceLemmas.{set_cases, set_same}
+use Rattle.ua_serve.specs.Turn.{Takes, Stands, counted, came, site_of}
 use Rattle.ua_serve.specs.Steps.{Moves, GoesOn, StepsFrom, Steps, AllStand, IsTold, IsToldFrom, kept, moves, told_of, is_due, IsOver}
 
 -- ---- one turn

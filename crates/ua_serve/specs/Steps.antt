@@ -1,8 +1,7 @@
 -- One step of the connections: what the place with a number came to.
-use Rattle.std.specs.Prelude.{◌≡◌, ℕ, ◌+◌, ◌-◌, ◌^◌, ◌==◌, ◌&&◌, ◌||◌, ◌⊎◌, ℤ, max, Bool, true, false, List, length, Option, Some, None, slice_get, slice_set}
+use Rattle.std.specs.Prelude.{◌≡◌, ℕ, ◌+◌, ◌-◌, ◌^◌, ◌==◌, ◌&&◌, ◌||◌, ◌⊎◌, ℤ, max, Bool, true, false, List, Option, Some, None, slice_get, slice_set}
 use Rattle.ua_disco.specs.Configuration.{Configuration}
 use Rattle.ua_frame.specs.Streams.{moment_of}
-use Rattle.ua_conn.specs.server.Site.{Site}
 use Rattle.ua_conn.specs.declared.outcome.End.TheVariants.{NoMemory, LinkFailed}
 use Rattle.ua_link.specs.Reads.{Cut, total}
 use Rattle.ua_link.specs.Turns.{Seen}
@@ -13,7 +12,7 @@ use Rattle.ua_link.specs.declared.connection.ReadyTurn.{ReadyTurn}
 use Rattle.ua_serve.specs.declared.connections.Place.{Place}
 use Rattle.ua_serve.specs.declared.connections.Parted.{Parted as Parting}
 use Rattle.ua_serve.specs.declared.connections.Step.{Step}
-use Rattle.ua_serve.specs.declared.connections.Step.TheVariants.{Quiet, Parted, NotAccepted, Failed}
+use Rattle.ua_serve.specs.declared.connections.Step.TheVariants.{Quiet, Parted}
 use Rattle.ua_serve.specs.Places.{Crowd, HasPlace, is_ready}
 use Rattle.ua_serve.specs.Turn.{Takes, Stands, counted}
 use Rattle.ua_serve.specs.Admission.{Admits, can_accept}

@@ -1,5 +1,5 @@
 -- A turn of one of the connections, and what that connection did since it got its place.
-use Rattle.std.specs.Prelude.{◌≡◌, ℕ, ◌+◌, ◌-◌, ◌^◌, ◌<◌, ◌≤◌, ◌⊎◌, ℤ, pos, min, max, true, false, if◌then◌else◌, List, [], ◌∷◌, length, Option, Some, None, IfSome}
+use Rattle.std.specs.Prelude.{◌≡◌, ℕ, ◌+◌, ◌-◌, ◌^◌, ◌<◌, ◌≤◌, ◌⊎◌, ℤ, pos, min, max, false, if◌then◌else◌, List, [], ◌∷◌, length, Option, Some, None, IfSome}
 use Rattle.ua_disco.specs.Configuration.{Configuration}
 use Rattle.ua_frame.specs.Streams.{moment_of}
 use Rattle.ua_conn.specs.server.Site.{Site}

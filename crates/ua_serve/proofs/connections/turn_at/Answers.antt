@@ -1,6 +1,4 @@
 use Rattle.std.proofs.Common.{◌≡◌, Some, None, unwrap_or, ap, sym, refl, ◌∙◌}
-use Rattle.ua_serve.specs.declared.connections.Place.{Place}
-use Rattle.ua_serve.specs.Turn.{seen_by}
 use Rattle.ua_serve.proofs.StepLemmas.{moved}
 use Rattle.ua_serve.proofs.connections.turn_at.Goals as goal
 

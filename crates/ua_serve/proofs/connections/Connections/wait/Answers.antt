@@ -1,4 +1,4 @@
-use Rattle.std.proofs.Common.{rules, w64, refl, ◌∙◌, ap}
+use Rattle.std.proofs.Common.{rules, w64, refl}
 use Rattle.std.proofs.lemmas.Int.{to_z-of_z}
 use mir.Val.{SFits}
 use Rattle.ua_serve.proofs.WaitLemmas.{asked_twice, wakes_all}
