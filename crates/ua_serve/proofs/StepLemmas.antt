@@ -7,9 +7,9 @@ use Rattle.ua_link.specs.Reports.{cuts_with}
 use Rattle.ua_link.specs.Connections.{Standing, Leaves, has_moved}
 use Rattle.ua_link.specs.declared.connection.Over.{Over}
 use Rattle.ua_link.specs.declared.connection.ReadyTurn.{ReadyTurn}
-use Rattle.ua_serve.specs.declared.connections.Place.{Place}
-use Rattle.ua_serve.specs.declared.connections.Step.{Step}
-use Rattle.ua_serve.specs.declared.connections.Step.TheVariants.{Quiet, Parted, NotAccepted, Failed}
+use Rattle.ua_serve.specs.declared.place.Place.{Place}
+use Rattle.ua_serve.specs.declared.place.Step.{Step}
+use Rattle.ua_serve.specs.declared.place.Step.TheVariants.{Quiet, Parted, NotAccepted, Failed}
 use Rattle.ua_serve.specs.Places.{Crowd, HasPlace, AreNumbered, is_ready}
 use Rattle.ua_serve.specs.Admission.{Admits, shut, nobody, failed, begun, Begins, IsFresh, new_place, with_place, with_one, with_failure, failure, may_accept, pause_left, can_accept}
 use Rattle.ua_serve.proofs.PlaceLemmas.{set_cases, set_same}

@@ -10,9 +10,9 @@ use Rattle.ua_link.specs.Clock.{Answered}
 use Rattle.ua_link.specs.Turns.{Seen}
 use Rattle.ua_link.specs.Connections.{Shown, Standing}
 use Rattle.ua_link.specs.declared.connection.Over.TheVariants.{Ended}
-use Rattle.ua_serve.specs.declared.connections.Place.{Place}
-use Rattle.ua_serve.specs.declared.connections.Step.{Step}
-use Rattle.ua_serve.specs.declared.connections.Step.TheVariants.{Quiet, Parted, NotAccepted, Failed}
+use Rattle.ua_serve.specs.declared.place.Place.{Place}
+use Rattle.ua_serve.specs.declared.place.Step.{Step}
+use Rattle.ua_serve.specs.declared.place.Step.TheVariants.{Quiet, Parted, NotAccepted, Failed}
 use Rattle.ua_serve.specs.Places.{Crowd, is_ready}
 
 -- ticks that are no more than half a second, and 0 for others

@@ -1,7 +1,7 @@
 -- The places of the connections that a server has at once, as contracts see them.
 use Rattle.std.specs.Prelude.{◌≡◌, ℕ, ◌<◌, ◌≤◌, ℤ, Bool, false, List, Option, Some, slice_get, unwrap_or}
 use Rattle.ua_disco.specs.Configuration.{Configuration}
-use Rattle.ua_serve.specs.declared.connections.Place.{Place}
+use Rattle.ua_serve.specs.declared.place.Place.{Place}
 
 -- what contracts see of the connections
 pub record Crowd (L : Type 0) : Type 0 where

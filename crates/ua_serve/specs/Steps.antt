@@ -9,10 +9,10 @@ use Rattle.ua_link.specs.Connections.{Shown, Standing, Leaves, has_moved}
 use Rattle.ua_link.specs.declared.connection.Over.{Over}
 use Rattle.ua_link.specs.declared.connection.Over.TheVariants.{Ended}
 use Rattle.ua_link.specs.declared.connection.ReadyTurn.{ReadyTurn}
-use Rattle.ua_serve.specs.declared.connections.Place.{Place}
-use Rattle.ua_serve.specs.declared.connections.Parted.{Parted as Parting}
-use Rattle.ua_serve.specs.declared.connections.Step.{Step}
-use Rattle.ua_serve.specs.declared.connections.Step.TheVariants.{Quiet, Parted}
+use Rattle.ua_serve.specs.declared.place.Place.{Place}
+use Rattle.ua_serve.specs.declared.place.Parted.{Parted as Parting}
+use Rattle.ua_serve.specs.declared.place.Step.{Step}
+use Rattle.ua_serve.specs.declared.place.Step.TheVariants.{Quiet, Parted}
 use Rattle.ua_serve.specs.Places.{Crowd, HasPlace, is_ready}
 use Rattle.ua_serve.specs.Turn.{Takes, Stands, counted}
 use Rattle.ua_serve.specs.Admission.{Admits, can_accept}

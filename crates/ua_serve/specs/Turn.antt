@@ -11,7 +11,7 @@ use Rattle.ua_link.specs.Reports.{cuts_with}
 use Rattle.ua_link.specs.Connections.{Standing, Leaves, has_moved}
 use Rattle.ua_link.specs.declared.connection.ReadyTurn.{ReadyTurn}
 use Rattle.ua_link.specs.declared.connection.Over.TheVariants.{Ended, TimedOut}
-use Rattle.ua_serve.specs.declared.connections.Place.{Place}
+use Rattle.ua_serve.specs.declared.place.Place.{Place}
 
 -- what contracts see of a link
 abbrev pub seen_by : {L : Type 0} → (L → Option (List ℕ)) → (L → Option (List ℕ)) → (L → ℕ) → L → Seen

@@ -2,7 +2,7 @@
 use Rattle.std.specs.Prelude.{◌≡◌, ℕ, ◌-◌, ◌≤◌, ℤ, Bool, true, max, if◌then◌else◌, List, [], ◌∷◌, ◌++◌, length, Option, Some, None, slice_get, ⊤}
 use Rattle.ua_frame.specs.Streams.{moment_of}
 use Rattle.ua_link.specs.Clock.{Answered}
-use Rattle.ua_serve.specs.declared.connections.Place.{Place}
+use Rattle.ua_serve.specs.declared.place.Place.{Place}
 use Rattle.ua_serve.specs.Places.{Crowd, is_ready}
 use Rattle.ua_serve.specs.Admission.{may_accept, pause_left}
 

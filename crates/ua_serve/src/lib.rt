@@ -2,9 +2,11 @@
 #![tactic(auto)]
 
 mod connections;
+mod place;
 mod sockets;
 mod tcp;
 
-pub use connections::{Connections, Parted, Step};
+pub use connections::Connections;
+pub use place::{Parted, Step};
 pub use sockets::{Accepted, Sockets};
 pub use tcp::TcpSockets;

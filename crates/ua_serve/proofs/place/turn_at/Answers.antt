@@ -1,6 +1,6 @@
 use Rattle.std.proofs.Common.{◌≡◌, Some, None, unwrap_or, ap, sym, refl, ◌∙◌}
 use Rattle.ua_serve.proofs.StepLemmas.{moved}
-use Rattle.ua_serve.proofs.connections.turn_at.Goals as goal
+use Rattle.ua_serve.proofs.place.turn_at.Goals as goal
 
 pub returns-in_default-over : goal.returns-in_default-over
 returns-in_default-over g c = λ settings p e.

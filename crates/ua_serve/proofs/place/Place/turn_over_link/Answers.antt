@@ -1,6 +1,6 @@
 use Rattle.std.proofs.Common.{◌+◌, ap, refl, ◌∙◌}
 use Rattle.ua_serve.specs.Turn.{counted, site_of}
-use Rattle.ua_serve.proofs.connections.Place.turn_over_link.Goals as goal
+use Rattle.ua_serve.proofs.place.Place.turn_over_link.Goals as goal
 
 pub returns : goal.returns
 returns g c = λ settings. record {
