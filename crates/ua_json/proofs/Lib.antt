@@ -1,1 +1,6 @@
 pub mod Levels
+pub mod Breaks
+pub mod Objects
+pub mod Ended
+pub mod Appending
+pub mod Captures

@@ -1,1 +1,3 @@
-pub mod Fronts
+pub mod Nesting
+pub mod Lines
+pub mod Told

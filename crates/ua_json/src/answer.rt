@@ -1,19 +1,19 @@
 //! What came in the place of an answer.
 
+ghost use Rattle.std.specs.Prelude.{◌≡◌, OnOk, OnErr, string_bytes};
+ghost use Rattle.ua_json.specs.Lines.{AppendsLine};
+ghost use Rattle.ua_json.specs.Nesting.{AddsMembers};
+
 use crate::line::Line;
 use ua_value::{NoMemory, StatusCode, UaString};
 
-/// An object of one field with a status.
-fn put_status(line: &mut Line, name: &str, status: u32) -> Result<(), NoMemory> {
-    line.begin_object()?;
-    line.field(name, &StatusCode(status))?;
-    line.end_object()
-}
-
 /// Adds the line of an object of one field with a status.
-fn add_status(text: &mut String, name: &str, status: u32) -> Result<(), NoMemory> {
+fn add_status(text: &mut String, name: &str, status: u32) -> Result<(), NoMemory>
+    ensures line { OnOk result (AppendsLine (string_bytes text.old) (string_bytes text.new)) }
+    ensures refused { OnErr result (string_bytes text.new ≡ string_bytes text.old) }
+{
     let mut line = Line::new(*text.allocator())?;
-    let put = put_status(&mut line, name, status);
+    let put = line.field(name, &StatusCode(status));
     line.add_to(text, put)
 }
 
@@ -22,7 +22,10 @@ fn add_status(text: &mut String, name: &str, status: u32) -> Result<(), NoMemory
 /// # Errors
 ///
 /// `NoMemory` where a growth was refused; the text is then as it was.
-pub fn add_service_fault(text: &mut String, status: u32) -> Result<(), NoMemory> {
+pub fn add_service_fault(text: &mut String, status: u32) -> Result<(), NoMemory>
+    ensures line { OnOk result (AppendsLine (string_bytes text.old) (string_bytes text.new)) }
+    ensures refused { OnErr result (string_bytes text.new ≡ string_bytes text.old) }
+{
     add_status(text, "ServiceResult", status)
 }
 
@@ -31,7 +34,10 @@ pub fn add_service_fault(text: &mut String, status: u32) -> Result<(), NoMemory>
 /// # Errors
 ///
 /// `NoMemory` where a growth was refused; the text is then as it was.
-pub fn add_abort(text: &mut String, status: u32) -> Result<(), NoMemory> {
+pub fn add_abort(text: &mut String, status: u32) -> Result<(), NoMemory>
+    ensures line { OnOk result (AppendsLine (string_bytes text.old) (string_bytes text.new)) }
+    ensures refused { OnErr result (string_bytes text.new ≡ string_bytes text.old) }
+{
     add_status(text, "Abort", status)
 }
 
@@ -40,20 +46,19 @@ pub fn add_abort(text: &mut String, status: u32) -> Result<(), NoMemory> {
 /// # Errors
 ///
 /// `NoMemory` where a growth was refused; the text is then as it was.
-pub fn add_broken(text: &mut String, status: u32) -> Result<(), NoMemory> {
+pub fn add_broken(text: &mut String, status: u32) -> Result<(), NoMemory>
+    ensures line { OnOk result (AppendsLine (string_bytes text.old) (string_bytes text.new)) }
+    ensures refused { OnErr result (string_bytes text.new ≡ string_bytes text.old) }
+{
     add_status(text, "Refused", status)
 }
 
 /// The status and the reason of an error.
-pub(crate) fn put_error(line: &mut Line, status: u32, reason: &UaString) -> Result<(), NoMemory> {
+pub(crate) fn put_error(line: &mut Line, status: u32, reason: &UaString) -> Result<(), NoMemory>
+    ensures { OnOk result (AddsMembers line.old.json.tokens line.new.json.tokens) }
+{
     line.field("Error", &StatusCode(status))?;
     line.field("Reason", reason)
-}
-
-fn put_error_object(line: &mut Line, status: u32, reason: &UaString) -> Result<(), NoMemory> {
-    line.begin_object()?;
-    put_error(line, status, reason)?;
-    line.end_object()
 }
 
 /// Appends the line of a server that gave up the connection with this status and a reason, which may be null: the fields
@@ -62,8 +67,11 @@ fn put_error_object(line: &mut Line, status: u32, reason: &UaString) -> Result<(
 /// # Errors
 ///
 /// `NoMemory` where a growth was refused; the text is then as it was.
-pub fn add_error(text: &mut String, status: u32, reason: &UaString) -> Result<(), NoMemory> {
+pub fn add_error(text: &mut String, status: u32, reason: &UaString) -> Result<(), NoMemory>
+    ensures line { OnOk result (AppendsLine (string_bytes text.old) (string_bytes text.new)) }
+    ensures refused { OnErr result (string_bytes text.new ≡ string_bytes text.old) }
+{
     let mut line = Line::new(*text.allocator())?;
-    let put = put_error_object(&mut line, status, reason);
+    let put = put_error(&mut line, status, reason);
     line.add_to(text, put)
 }

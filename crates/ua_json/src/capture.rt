@@ -1,7 +1,10 @@
 //! The raw bytes of one direction, frame by frame.
 
-ghost use Rattle.std.specs.Prelude.{◌+◌, length, IfOk};
-ghost use Rattle.ua_json.specs.Fronts.{Fits};
+ghost use Rattle.std.specs.Prelude.{◌≡◌, ◌+◌, [], IfOk, OnOk, string_bytes};
+ghost use Rattle.ua_chunk.specs.declared.content.Content.TheVariants.{Message as carried};
+ghost use Rattle.ua_print.specs.Capture.{shown};
+ghost use Rattle.ua_json.specs.Lines.{AreLines, AppendsLine, AppendsLines};
+ghost use Rattle.ua_json.specs.Told.{messages_in, rest_told, told, AddsFrame, AddsFront};
 
 use crate::frame::{add_bad, add_frame, add_message, add_rest};
 use std::alloc::{AllocError, Global};
@@ -32,18 +35,17 @@ enum Front {
 }
 
 /// Adds the line of a whole message under this request id.
-fn add_whole(
-    alloc: Global,
-    text: &mut String,
-    request_id: u32,
-    body: &[u8],
-) -> Result<(), NoMemory> {
+fn add_whole(alloc: Global, text: &mut String, request_id: u32, body: &[u8]) -> Result<(), NoMemory>
+    ensures { OnOk result (AppendsLine (string_bytes text.old) (string_bytes text.new)) }
+{
     add_message(alloc, text, None, request_id, &[body])
 }
 
 /// Takes in the part of a message, and adds the message's line where it is whole with it. Parts stay where they lie; one
 /// that has no bytes is not kept.
-fn add_part<'a>(alloc: Global, lines: &mut Lines<'a>, chunk: &Chunk<'a>) -> Result<(), NoMemory> {
+fn add_part<'a>(alloc: Global, lines: &mut Lines<'a>, chunk: &Chunk<'a>) -> Result<(), NoMemory>
+    ensures { OnOk result (AppendsLines (messages_in (carried chunk.now)) (string_bytes lines.old.text) (string_bytes lines.new.text)) }
+{
     let body = chunk.body();
     match chunk.flag() {
         b'A' => lines.half.clear(),
@@ -74,13 +76,15 @@ fn add_content<'a>(
     offset: usize,
     size: usize,
     content: &Content<'a>,
-) -> Result<(), NoMemory> {
+) -> Result<(), NoMemory>
+    ensures { OnOk result (AppendsLines (1 + messages_in content.now) (string_bytes lines.old.text) (string_bytes lines.new.text)) }
+{
     add_frame(alloc, &mut lines.text, None, offset, size, content)?;
     match content {
-        Content::Hello(_)
-        | Content::Acknowledge(_)
-        | Content::Error(_)
-        | Content::ReverseHello(_) => Ok(()),
+        Content::Hello(_) => Ok(()),
+        Content::Acknowledge(_) => Ok(()),
+        Content::Error(_) => Ok(()),
+        Content::ReverseHello(_) => Ok(()),
         Content::Open(chunk) => {
             add_whole(alloc, &mut lines.text, chunk.request_id(), chunk.body())
         }
@@ -98,7 +102,7 @@ fn add_known<'a>(
     offset: usize,
     frame: &Frame<'a>,
 ) -> Result<Front, NoMemory>
-    ensures { IfOk result (Fits (8 + length frame.now.fields)) }
+    ensures { IfOk result (AddsFrame frame.now (string_bytes lines.old.text) (string_bytes lines.new.text)) }
 {
     let size = HEADER + frame.fields().len();
     match content_of(alloc, frame) {
@@ -115,7 +119,10 @@ fn add_known<'a>(
 }
 
 /// Adds the line of bytes that are less than a frame, if there are some, and gives the exit status.
-fn add_left(alloc: Global, lines: &mut Lines, offset: usize, bytes: &[u8]) -> Result<u8, NoMemory> {
+fn add_left(alloc: Global, lines: &mut Lines, offset: usize, bytes: &[u8]) -> Result<u8, NoMemory>
+    ensures lines { OnOk result (AppendsLines (rest_told bytes.now).lines (string_bytes lines.old.text) (string_bytes lines.new.text)) }
+    ensures status { IfOk result (λ status. status ≡ (rest_told bytes.now).status) }
+{
     if bytes.is_empty() {
         return Ok(0);
     }
@@ -130,7 +137,7 @@ fn add_front<'a>(
     offset: usize,
     bytes: &'a [u8],
 ) -> Result<Front, NoMemory>
-    ensures { IfOk result (Fits (length bytes.now)) }
+    ensures { IfOk result (AddsFront bytes.now (string_bytes lines.old.text) (string_bytes lines.new.text)) }
 {
     match frame_at(bytes, LONGEST) {
         Ok(Some(frame)) => add_known(alloc, lines, offset, &frame),
@@ -146,7 +153,10 @@ fn add_front<'a>(
 }
 
 /// Adds the lines of all frames, and gives the exit status.
-fn add_all<'a>(alloc: Global, lines: &mut Lines<'a>, bytes: &'a [u8]) -> Result<u8, NoMemory> {
+fn add_all<'a>(alloc: Global, lines: &mut Lines<'a>, bytes: &'a [u8]) -> Result<u8, NoMemory>
+    ensures lines { OnOk result (AppendsLines (told bytes.now).lines (string_bytes lines.old.text) (string_bytes lines.new.text)) }
+    ensures status { IfOk result (λ status. status ≡ (told bytes.now).status) }
+{
     let mut offset = 0;
     'frames: loop {
         match add_front(alloc, lines, offset, &bytes[offset..])? {
@@ -163,7 +173,10 @@ fn add_all<'a>(alloc: Global, lines: &mut Lines<'a>, bytes: &'a [u8]) -> Result<
 /// # Errors
 ///
 /// `NoMemory` where a growth was refused.
-pub fn frames_json(alloc: Global, bytes: &[u8]) -> Result<(String, u8), NoMemory> {
+pub fn frames_json(alloc: Global, bytes: &[u8]) -> Result<(String, u8), NoMemory>
+    ensures lines { IfOk result (λ x. AreLines (told bytes.now).lines (string_bytes x.0)) }
+    ensures status { IfOk result (λ x. x.1 ≡ (shown bytes.now).status) }
+{
     let mut lines = Lines {
         text: String::new(alloc),
         half: Vec::new(alloc),

@@ -1,12 +1,17 @@
 //! Diagnostics.
 
+ghost use Rattle.std.specs.Prelude.{OnOk};
+ghost use Rattle.ua_json.specs.Nesting.{AddsValue, AddsMembers};
+
 use crate::line::Line;
 use crate::put::Put;
 use ua_value::NoMemory;
 use ua_variant::{DiagnosticInfo, DiagnosticParts};
 
 /// The parts that are there (OPC 10000-6, 5.4.2.13).
-fn put_parts(line: &mut Line, parts: &DiagnosticParts) -> Result<(), NoMemory> {
+fn put_parts(line: &mut Line, parts: &DiagnosticParts) -> Result<(), NoMemory>
+    ensures { OnOk result (AddsMembers line.old.json.tokens line.new.json.tokens) }
+{
     line.part("SymbolicId", &parts.symbolic_id)?;
     line.part("NamespaceUri", &parts.namespace_uri)?;
     line.part("Locale", &parts.locale)?;
@@ -16,7 +21,9 @@ fn put_parts(line: &mut Line, parts: &DiagnosticParts) -> Result<(), NoMemory> {
 }
 
 /// The parts that are there, and the diagnostics inside.
-pub(crate) fn put_diagnostic(line: &mut Line, info: &DiagnosticInfo) -> Result<(), NoMemory> {
+pub(crate) fn put_diagnostic(line: &mut Line, info: &DiagnosticInfo) -> Result<(), NoMemory>
+    ensures { OnOk result (AddsValue line.old.json.tokens line.new.json.tokens) }
+{
     line.begin_object()?;
     put_parts(line, info.parts())?;
     if let Some(inner) = info.inner() {

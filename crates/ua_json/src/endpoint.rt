@@ -1,5 +1,9 @@
 //! Endpoints of servers.
 
+ghost use Rattle.std.specs.Prelude.{◌≡◌, OnOk, OnErr, string_bytes};
+ghost use Rattle.ua_json.specs.Lines.{AppendsLine};
+ghost use Rattle.ua_json.specs.Nesting.{AddsMembers};
+
 use crate::line::Line;
 use crate::put::Put;
 use std::alloc::Global;
@@ -18,19 +22,18 @@ impl Put for UserTokenPolicy {
     }
 }
 
-impl Put for EndpointDescription {
-    fn put(&self, line: &mut Line) -> Result<(), NoMemory> {
-        line.begin_object()?;
-        line.field("EndpointUrl", &self.endpoint_url)?;
-        line.field("Server", &self.server)?;
-        line.field("ServerCertificate", &self.server_certificate)?;
-        line.field("SecurityMode", &self.security_mode)?;
-        line.field("SecurityPolicyUri", &self.security_policy_uri)?;
-        line.field("UserIdentityTokens", &self.user_identity_tokens)?;
-        line.field("TransportProfileUri", &self.transport_profile_uri)?;
-        line.field("SecurityLevel", &self.security_level)?;
-        line.end_object()
-    }
+/// The fields of an endpoint (OPC 10000-4, 7.14).
+fn put_endpoint(line: &mut Line, endpoint: &EndpointDescription) -> Result<(), NoMemory>
+    ensures { OnOk result (AddsMembers line.old.json.tokens line.new.json.tokens) }
+{
+    line.field("EndpointUrl", &endpoint.endpoint_url)?;
+    line.field("Server", &endpoint.server)?;
+    line.field("ServerCertificate", &endpoint.server_certificate)?;
+    line.field("SecurityMode", &endpoint.security_mode)?;
+    line.field("SecurityPolicyUri", &endpoint.security_policy_uri)?;
+    line.field("UserIdentityTokens", &endpoint.user_identity_tokens)?;
+    line.field("TransportProfileUri", &endpoint.transport_profile_uri)?;
+    line.field("SecurityLevel", &endpoint.security_level)
 }
 
 /// Appends the line of an endpoint, under the names of OPC 10000-4, 7.14.
@@ -42,8 +45,11 @@ pub fn add_endpoint(
     alloc: Global,
     text: &mut String,
     endpoint: &EndpointDescription,
-) -> Result<(), NoMemory> {
+) -> Result<(), NoMemory>
+    ensures line { OnOk result (AppendsLine (string_bytes text.old) (string_bytes text.new)) }
+    ensures refused { OnErr result (string_bytes text.new ≡ string_bytes text.old) }
+{
     let mut line = Line::new(alloc)?;
-    let put = endpoint.put(&mut line);
+    let put = put_endpoint(&mut line, endpoint);
     line.add_to(text, put)
 }

@@ -1,6 +1,8 @@
 //! Frames and messages of a capture.
 
-ghost use Rattle.std.specs.Prelude.{◌≤◌, length};
+ghost use Rattle.std.specs.Prelude.{◌≤◌, length, ◌≡◌, OnOk, OnErr, string_bytes};
+ghost use Rattle.ua_json.specs.Lines.{AppendsLine};
+ghost use Rattle.ua_json.specs.Nesting.{AddsMembers};
 
 use crate::answer::put_error;
 use crate::line::Line;
@@ -12,7 +14,9 @@ use ua_print::{size_of, type_of_parts};
 use ua_value::{NoMemory, NodeId, StatusCode};
 
 /// The fields of a HEL (OPC 10000-6, 7.1.2.3).
-fn put_hello(line: &mut Line, hello: &Hello) -> Result<(), NoMemory> {
+fn put_hello(line: &mut Line, hello: &Hello) -> Result<(), NoMemory>
+    ensures { OnOk result (AddsMembers line.old.json.tokens line.new.json.tokens) }
+{
     line.field("ProtocolVersion", &hello.version)?;
     line.field("ReceiveBufferSize", &hello.receive)?;
     line.field("SendBufferSize", &hello.send)?;
@@ -22,7 +26,9 @@ fn put_hello(line: &mut Line, hello: &Hello) -> Result<(), NoMemory> {
 }
 
 /// The fields of an ACK (OPC 10000-6, 7.1.2.4).
-fn put_acknowledge(line: &mut Line, ack: &Ack) -> Result<(), NoMemory> {
+fn put_acknowledge(line: &mut Line, ack: &Ack) -> Result<(), NoMemory>
+    ensures { OnOk result (AddsMembers line.old.json.tokens line.new.json.tokens) }
+{
     line.field("ProtocolVersion", &ack.version)?;
     line.field("ReceiveBufferSize", &ack.receive)?;
     line.field("SendBufferSize", &ack.send)?;
@@ -31,18 +37,24 @@ fn put_acknowledge(line: &mut Line, ack: &Ack) -> Result<(), NoMemory> {
 }
 
 /// The fields of an ERR (OPC 10000-6, 7.1.2.5).
-fn put_error_frame(line: &mut Line, error: &ErrorFrame) -> Result<(), NoMemory> {
+fn put_error_frame(line: &mut Line, error: &ErrorFrame) -> Result<(), NoMemory>
+    ensures { OnOk result (AddsMembers line.old.json.tokens line.new.json.tokens) }
+{
     put_error(line, error.status, &error.reason)
 }
 
 /// The fields of an RHE (OPC 10000-6, 7.1.2.6).
-fn put_reverse_hello(line: &mut Line, said: &ReverseHello) -> Result<(), NoMemory> {
+fn put_reverse_hello(line: &mut Line, said: &ReverseHello) -> Result<(), NoMemory>
+    ensures { OnOk result (AddsMembers line.old.json.tokens line.new.json.tokens) }
+{
     line.field("ServerUri", &said.server_uri)?;
     line.field("EndpointUrl", &said.endpoint_url)
 }
 
 /// The headers of an OPN, and the size of its body (OPC 10000-6, 6.7.2).
-fn put_open(line: &mut Line, chunk: &OpenChunk) -> Result<(), NoMemory> {
+fn put_open(line: &mut Line, chunk: &OpenChunk) -> Result<(), NoMemory>
+    ensures { OnOk result (AddsMembers line.old.json.tokens line.new.json.tokens) }
+{
     line.field("SecureChannelId", &chunk.channel())?;
     line.field("SecurityPolicyUri", &chunk.policy())?;
     line.field("SequenceNumber", &chunk.sequence())?;
@@ -51,7 +63,9 @@ fn put_open(line: &mut Line, chunk: &OpenChunk) -> Result<(), NoMemory> {
 }
 
 /// The headers of a MSG or CLO, and the size of its body (OPC 10000-6, 6.7.2).
-fn put_chunk(line: &mut Line, chunk: &Chunk) -> Result<(), NoMemory> {
+fn put_chunk(line: &mut Line, chunk: &Chunk) -> Result<(), NoMemory>
+    ensures { OnOk result (AddsMembers line.old.json.tokens line.new.json.tokens) }
+{
     line.key("IsFinal")?;
     line.shown(&char::from(chunk.flag()))?;
     line.field("SecureChannelId", &chunk.channel())?;
@@ -62,7 +76,9 @@ fn put_chunk(line: &mut Line, chunk: &Chunk) -> Result<(), NoMemory> {
 }
 
 /// What a frame carries.
-fn put_content(line: &mut Line, content: &Content) -> Result<(), NoMemory> {
+fn put_content(line: &mut Line, content: &Content) -> Result<(), NoMemory>
+    ensures { OnOk result (AddsMembers line.old.json.tokens line.new.json.tokens) }
+{
     match content {
         Content::Hello(hello) => put_hello(line, hello),
         Content::Acknowledge(ack) => put_acknowledge(line, ack),
@@ -93,15 +109,15 @@ fn put_frame(
     offset: usize,
     size: usize,
     content: &Content,
-) -> Result<(), NoMemory> {
-    line.begin_object()?;
+) -> Result<(), NoMemory>
+    ensures { OnOk result (AddsMembers line.old.json.tokens line.new.json.tokens) }
+{
     put_origin(line, origin)?;
     line.count("Offset", offset)?;
     line.key("MessageType")?;
     line.text(type_name(content))?;
     line.count("MessageSize", size)?;
-    put_content(line, content)?;
-    line.end_object()
+    put_content(line, content)
 }
 
 /// Adds the line of a frame of so many bytes, in front of whose fields stands where it comes from, if that is said.
@@ -117,7 +133,10 @@ pub fn add_frame(
     offset: usize,
     size: usize,
     content: &Content,
-) -> Result<(), NoMemory> {
+) -> Result<(), NoMemory>
+    ensures line { OnOk result (AppendsLine (string_bytes text.old) (string_bytes text.new)) }
+    ensures refused { OnErr result (string_bytes text.new ≡ string_bytes text.old) }
+{
     let mut line = Line::new(alloc)?;
     let put = put_frame(&mut line, origin, offset, size, content);
     line.add_to(text, put)
@@ -129,8 +148,9 @@ fn put_message(
     request_id: u32,
     id: Option<&NodeId>,
     size: usize,
-) -> Result<(), NoMemory> {
-    line.begin_object()?;
+) -> Result<(), NoMemory>
+    ensures { OnOk result (AddsMembers line.old.json.tokens line.new.json.tokens) }
+{
     put_origin(line, origin)?;
     line.field("RequestId", &request_id)?;
     line.key("TypeId")?;
@@ -138,8 +158,7 @@ fn put_message(
         Some(id) => line.node(id)?,
         None => line.null()?,
     }
-    line.count("BodySize", size)?;
-    line.end_object()
+    line.count("BodySize", size)
 }
 
 /// Adds the line of a whole message in parts under this request id: the id of its encoding, if it begins with one, and
@@ -156,6 +175,8 @@ pub fn add_message(
     parts: &[&[u8]],
 ) -> Result<(), NoMemory>
     requires { 1 ≤ length parts.now }
+    ensures line { OnOk result (AppendsLine (string_bytes text.old) (string_bytes text.new)) }
+    ensures refused { OnErr result (string_bytes text.new ≡ string_bytes text.old) }
 {
     let size = size_of(parts)?;
     let id = type_of_parts(alloc, parts, size)?;
@@ -169,12 +190,12 @@ fn put_bad(
     origin: Option<Origin>,
     offset: usize,
     status: u32,
-) -> Result<(), NoMemory> {
-    line.begin_object()?;
+) -> Result<(), NoMemory>
+    ensures { OnOk result (AddsMembers line.old.json.tokens line.new.json.tokens) }
+{
     put_origin(line, origin)?;
     line.count("Offset", offset)?;
-    line.field("Refused", &StatusCode(status))?;
-    line.end_object()
+    line.field("Refused", &StatusCode(status))
 }
 
 /// Adds the line of a frame, or of what should be one, that is refused with this status; in front where it comes from, if
@@ -189,7 +210,10 @@ pub fn add_bad(
     origin: Option<Origin>,
     offset: usize,
     status: u32,
-) -> Result<(), NoMemory> {
+) -> Result<(), NoMemory>
+    ensures line { OnOk result (AppendsLine (string_bytes text.old) (string_bytes text.new)) }
+    ensures refused { OnErr result (string_bytes text.new ≡ string_bytes text.old) }
+{
     let mut line = Line::new(alloc)?;
     let put = put_bad(&mut line, origin, offset, status);
     line.add_to(text, put)
@@ -200,12 +224,12 @@ fn put_rest(
     origin: Option<Origin>,
     offset: usize,
     left: usize,
-) -> Result<(), NoMemory> {
-    line.begin_object()?;
+) -> Result<(), NoMemory>
+    ensures { OnOk result (AddsMembers line.old.json.tokens line.new.json.tokens) }
+{
     put_origin(line, origin)?;
     line.count("Offset", offset)?;
-    line.count("Rest", left)?;
-    line.end_object()
+    line.count("Rest", left)
 }
 
 /// Adds the line of bytes that are less than a frame; in front where they come from, if that is said.
@@ -219,7 +243,10 @@ pub fn add_rest(
     origin: Option<Origin>,
     offset: usize,
     left: usize,
-) -> Result<(), NoMemory> {
+) -> Result<(), NoMemory>
+    ensures line { OnOk result (AppendsLine (string_bytes text.old) (string_bytes text.new)) }
+    ensures refused { OnErr result (string_bytes text.new ≡ string_bytes text.old) }
+{
     let mut line = Line::new(alloc)?;
     let put = put_rest(&mut line, origin, offset, left);
     line.add_to(text, put)

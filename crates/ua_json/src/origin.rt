@@ -1,5 +1,8 @@
 //! Where in a capture of many connections a line comes from.
 
+ghost use Rattle.std.specs.Prelude.{OnOk};
+ghost use Rattle.ua_json.specs.Nesting.{AddsMembers};
+
 use crate::line::Line;
 use crate::moment::Moment;
 use ua_value::NoMemory;
@@ -25,7 +28,9 @@ pub struct Origin {
 }
 
 /// A moment, or null where none is known.
-pub(crate) fn put_moment(line: &mut Line, moment: Option<u64>) -> Result<(), NoMemory> {
+pub(crate) fn put_moment(line: &mut Line, moment: Option<u64>) -> Result<(), NoMemory>
+    ensures { OnOk result (AddsMembers line.old.json.tokens line.new.json.tokens) }
+{
     line.key("Moment")?;
     match moment {
         Some(nanoseconds) => line.shown(&Moment(nanoseconds)),
@@ -41,7 +46,9 @@ fn sender_name(sender: Sender) -> &'static str {
 }
 
 /// The fields of an origin, if there is one.
-pub(crate) fn put_origin(line: &mut Line, origin: Option<Origin>) -> Result<(), NoMemory> {
+pub(crate) fn put_origin(line: &mut Line, origin: Option<Origin>) -> Result<(), NoMemory>
+    ensures { OnOk result (AddsMembers line.old.json.tokens line.new.json.tokens) }
+{
     match origin {
         Some(origin) => {
             line.count("Stream", origin.stream)?;

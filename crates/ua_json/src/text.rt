@@ -1,5 +1,8 @@
 //! Texts, bytes, names and arrays.
 
+ghost use Rattle.std.specs.Prelude.{OnOk};
+ghost use Rattle.ua_json.specs.Nesting.{AddsValue};
+
 use crate::line::Line;
 use crate::put::Put;
 use ua_value::{
@@ -79,7 +82,9 @@ impl<T: Wire + Put> Put for Array<T> {
 }
 
 /// An array of JSON.
-pub(crate) fn put_items<T: Put>(line: &mut Line, items: &[T]) -> Result<(), NoMemory> {
+pub(crate) fn put_items<T: Put>(line: &mut Line, items: &[T]) -> Result<(), NoMemory>
+    ensures { OnOk result (AddsValue line.old.json.tokens line.new.json.tokens) }
+{
     line.begin_array()?;
     for item in items {
         item.put(line)?;

@@ -1,7 +1,9 @@
 //! Values of the built-in types.
 
-ghost use Rattle.std.specs.Prelude.{◌≤◌, length};
+ghost use Rattle.std.specs.Prelude.{◌≤◌, length, ◌≡◌, OnOk, OnErr, string_bytes};
 ghost use Rattle.ua_value.specs.Format.{input_limit};
+ghost use Rattle.ua_json.specs.Lines.{AppendsLine};
+ghost use Rattle.ua_json.specs.Nesting.{AddsMembers};
 
 use crate::line::Line;
 use crate::put::Put;
@@ -28,16 +30,16 @@ fn put_read<T: Put>(
     sizes: Sizes,
     canon: &[u8],
     value: &T,
-) -> Result<(), NoMemory> {
-    line.begin_object()?;
+) -> Result<(), NoMemory>
+    ensures { OnOk result (AddsMembers line.old.json.tokens line.new.json.tokens) }
+{
     line.key("Type")?;
     line.text(kind.name())?;
     line.count("Used", sizes.used)?;
     line.count("Size", sizes.size)?;
     line.key("Canonical")?;
     line.hex(canon)?;
-    line.field("Value", value)?;
-    line.end_object()
+    line.field("Value", value)
 }
 
 /// Adds the line of a value that was read.
@@ -47,7 +49,10 @@ fn add_read<T: Wire + Put>(
     kind: Kind,
     sizes: Sizes,
     value: &T,
-) -> Result<(), NoMemory> {
+) -> Result<(), NoMemory>
+    ensures line { OnOk result (AppendsLine (string_bytes text.old) (string_bytes text.new)) }
+    ensures refused { OnErr result (string_bytes text.new ≡ string_bytes text.old) }
+{
     let mut canon = Vec::new(alloc);
     value.write(&mut canon)?;
     let mut line = Line::new(alloc)?;
@@ -63,6 +68,8 @@ fn add<T: Wire + Put>(
     bytes: &[u8],
 ) -> Result<(), ReadFault>
     requires { length bytes.now ≤ input_limit }
+    ensures line { OnOk result (AppendsLine (string_bytes text.old) (string_bytes text.new)) }
+    ensures refused { OnErr result (string_bytes text.new ≡ string_bytes text.old) }
 {
     let (value, used) = T::read(alloc, bytes)?;
     let sizes = Sizes {
@@ -88,6 +95,8 @@ pub fn add_value(
     bytes: &[u8],
 ) -> Result<(), ReadFault>
     requires { length bytes.now ≤ input_limit }
+    ensures line { OnOk result (AppendsLine (string_bytes text.old) (string_bytes text.new)) }
+    ensures refused { OnErr result (string_bytes text.new ≡ string_bytes text.old) }
 {
     match kind {
         Kind::Boolean => add::<bool>(alloc, text, kind, bytes),
@@ -119,13 +128,13 @@ pub fn add_value(
 }
 
 /// The object of bytes that were refused.
-fn put_refused(line: &mut Line, kind: Kind, size: usize) -> Result<(), NoMemory> {
-    line.begin_object()?;
+fn put_refused(line: &mut Line, kind: Kind, size: usize) -> Result<(), NoMemory>
+    ensures { OnOk result (AddsMembers line.old.json.tokens line.new.json.tokens) }
+{
     line.key("Type")?;
     line.text(kind.name())?;
     line.count("Size", size)?;
-    line.field("Refused", &true)?;
-    line.end_object()
+    line.field("Refused", &true)
 }
 
 /// Appends the line of so many bytes that begin with no value of a built-in type.
@@ -133,7 +142,10 @@ fn put_refused(line: &mut Line, kind: Kind, size: usize) -> Result<(), NoMemory>
 /// # Errors
 ///
 /// `NoMemory` where a growth was refused; the text is then as it was.
-pub fn add_refused_value(text: &mut String, kind: Kind, size: usize) -> Result<(), NoMemory> {
+pub fn add_refused_value(text: &mut String, kind: Kind, size: usize) -> Result<(), NoMemory>
+    ensures line { OnOk result (AppendsLine (string_bytes text.old) (string_bytes text.new)) }
+    ensures refused { OnErr result (string_bytes text.new ≡ string_bytes text.old) }
+{
     let mut line = Line::new(*text.allocator())?;
     let put = put_refused(&mut line, kind, size);
     line.add_to(text, put)

@@ -2,6 +2,8 @@
 
 ghost use Rattle.ua_variant.specs.Making.{HoldsNone};
 ghost use Rattle.ua_variant.specs.View.{element};
+ghost use Rattle.std.specs.Prelude.{OnOk};
+ghost use Rattle.ua_json.specs.Nesting.{AddsValue, AddsMembers};
 
 use crate::line::Line;
 use crate::put::Put;
@@ -11,7 +13,9 @@ use ua_variant::{DataValue, Element, Variant};
 
 /// `null`, or the kind with the value or the elements and the dimensions that there are.
 #[cycle(put)]
-fn put_variant(line: &mut Line, value: &Variant) -> Result<(), NoMemory> {
+fn put_variant(line: &mut Line, value: &Variant) -> Result<(), NoMemory>
+    ensures { OnOk result (AddsValue line.old.json.tokens line.new.json.tokens) }
+{
     let Some(kind) = value.kind() else {
         return line.null();
     };
@@ -26,7 +30,9 @@ fn put_variant(line: &mut Line, value: &Variant) -> Result<(), NoMemory> {
 
 /// The value, the elements, or `null` for an array that is null.
 #[cycle(put)]
-fn put_body(line: &mut Line, value: &Variant) -> Result<(), NoMemory> {
+fn put_body(line: &mut Line, value: &Variant) -> Result<(), NoMemory>
+    ensures { OnOk result (AddsValue line.old.json.tokens line.new.json.tokens) }
+{
     match value.value() {
         Some(one) => put_element(line, one),
         None => match value.elements() {
@@ -36,7 +42,9 @@ fn put_body(line: &mut Line, value: &Variant) -> Result<(), NoMemory> {
     }
 }
 
-fn put_dimensions(line: &mut Line, value: &Variant) -> Result<(), NoMemory> {
+fn put_dimensions(line: &mut Line, value: &Variant) -> Result<(), NoMemory>
+    ensures { OnOk result (AddsMembers line.old.json.tokens line.new.json.tokens) }
+{
     match value.dimensions() {
         None => Ok(()),
         Some(dimensions) => {
@@ -47,7 +55,9 @@ fn put_dimensions(line: &mut Line, value: &Variant) -> Result<(), NoMemory> {
 }
 
 #[cycle(put)]
-fn put_elements(line: &mut Line, elements: &[Element]) -> Result<(), NoMemory> {
+fn put_elements(line: &mut Line, elements: &[Element]) -> Result<(), NoMemory>
+    ensures { OnOk result (AddsValue line.old.json.tokens line.new.json.tokens) }
+{
     line.begin_array()?;
     for item in elements {
         put_element(line, item)?;
@@ -56,7 +66,9 @@ fn put_elements(line: &mut Line, elements: &[Element]) -> Result<(), NoMemory> {
 }
 
 #[cycle(put)]
-fn put_element(line: &mut Line, item: &Element) -> Result<(), NoMemory> {
+fn put_element(line: &mut Line, item: &Element) -> Result<(), NoMemory>
+    ensures { OnOk result (AddsValue line.old.json.tokens line.new.json.tokens) }
+{
     match item {
         Element::DataValue(value) => put_data(line, value),
         Element::Variant(value) => put_variant(line, value),
@@ -69,6 +81,7 @@ fn put_element(line: &mut Line, item: &Element) -> Result<(), NoMemory> {
 #[inline(never)]
 fn put_plain(line: &mut Line, item: &Element) -> Result<(), NoMemory>
     requires { HoldsNone (element item.now) }
+    ensures { OnOk result (AddsValue line.old.json.tokens line.new.json.tokens) }
 {
     match item {
         Element::Boolean(value) => value.put(line),
@@ -101,7 +114,9 @@ fn put_plain(line: &mut Line, item: &Element) -> Result<(), NoMemory>
 
 /// What there is of a value, its status and its moments.
 #[cycle(put)]
-fn put_data(line: &mut Line, value: &DataValue) -> Result<(), NoMemory> {
+fn put_data(line: &mut Line, value: &DataValue) -> Result<(), NoMemory>
+    ensures { OnOk result (AddsValue line.old.json.tokens line.new.json.tokens) }
+{
     line.begin_object()?;
     if let Some(inner) = value.value() {
         line.key("Value")?;
@@ -113,7 +128,9 @@ fn put_data(line: &mut Line, value: &DataValue) -> Result<(), NoMemory> {
 
 /// What there is beside the value.
 #[inline(never)]
-fn put_stamps(line: &mut Line, value: &DataValue) -> Result<(), NoMemory> {
+fn put_stamps(line: &mut Line, value: &DataValue) -> Result<(), NoMemory>
+    ensures { OnOk result (AddsMembers line.old.json.tokens line.new.json.tokens) }
+{
     line.part("Status", &value.status())?;
     line.part("SourceTimestamp", &value.source_timestamp())?;
     line.part("SourcePicoseconds", &value.source_picoseconds())?;
