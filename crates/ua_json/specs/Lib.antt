@@ -1,3 +1,4 @@
 pub mod Nesting
 pub mod Lines
 pub mod Told
+pub mod Value

@@ -4,6 +4,7 @@ ghost use Rattle.std.specs.Prelude.{◌≤◌, length, ◌≡◌, OnOk, OnErr, s
 ghost use Rattle.ua_value.specs.Format.{input_limit};
 ghost use Rattle.ua_json.specs.Lines.{AppendsLine};
 ghost use Rattle.ua_json.specs.Nesting.{AddsMembers};
+ghost use Rattle.ua_json.specs.Value.{Begins, BeginsKind};
 
 use crate::line::Line;
 use crate::put::Put;
@@ -68,6 +69,7 @@ fn add<T: Wire + Put>(
     bytes: &[u8],
 ) -> Result<(), ReadFault>
     requires { length bytes.now ≤ input_limit }
+    ensures begins { Begins T.format bytes.now result }
     ensures line { OnOk result (AppendsLine (string_bytes text.old) (string_bytes text.new)) }
     ensures refused { OnErr result (string_bytes text.new ≡ string_bytes text.old) }
 {
@@ -95,6 +97,7 @@ pub fn add_value(
     bytes: &[u8],
 ) -> Result<(), ReadFault>
     requires { length bytes.now ≤ input_limit }
+    ensures begins { BeginsKind kind bytes.now result }
     ensures line { OnOk result (AppendsLine (string_bytes text.old) (string_bytes text.new)) }
     ensures refused { OnErr result (string_bytes text.new ≡ string_bytes text.old) }
 {
