@@ -92,7 +92,7 @@ abbrev pub value_app : Lent → App
 value_app names = with_rule (with_rule (with_rule (with_rule (new_app (codes "value")) (type_rule names)) (word_rule (codes "hex"))) (flag_rule (codes "show"))) (flag_rule (codes "json"))
 
 abbrev pub show_app : App
-show_app = with_rule (with_rule (with_rule (with_rule (new_app (codes "show")) (word_rule (codes "file"))) (index_rule (codes "stream") 4294967295)) (index_rule (codes "port") 65535)) (flag_rule (codes "json"))
+show_app = with_rule (with_rule (with_rule (with_rule (with_rule (new_app (codes "show")) (word_rule (codes "file"))) (index_rule (codes "stream") 4294967295)) (index_rule (codes "port") 65535)) (flag_rule (codes "all"))) (flag_rule (codes "json"))
 
 abbrev pub serve_app : App
 serve_app = with_rule (with_rule (with_rule (with_rule (with_rule (with_rule (new_app (codes "serve")) (word_rule (codes "settings"))) (word_rule (codes "address"))) count_rule) (number_rule (codes "at-once") 65535)) (number_rule (codes "patience") 86400)) reverse_rule
@@ -269,7 +269,7 @@ are_many word = is_some (word.one (codes "at-once")) || is_some (word.one (codes
 abbrev pub HasValues : Words → Command → Type 0
 HasValues word (Answer source reverse) = IsSourceOf (word.one (codes "settings")) source × (reverse ≡ is_given (word.one (codes "reverse")))
 HasValues word (Value kind bytes form) = (word.one (codes "type") ≡ Some (kind_name kind)) × IsHexOf bytes.items (word.one (codes "hex")) × (form ≡ form_of (is_given (word.one (codes "show"))) (is_given (word.one (codes "json"))))
-HasValues word (Show capture form stream port) = IsCaptureOf (word.one (codes "file")) capture × (form ≡ form_of false (is_given (word.one (codes "json")))) × IsNumberOf 4294967295 (word.one (codes "stream")) stream × IsNumberOf 65535 (word.one (codes "port")) port
+HasValues word (Show capture form stream port) = IsCaptureOf (word.one (codes "file")) capture × (form ≡ form_of (is_given (word.one (codes "all"))) (is_given (word.one (codes "json")))) × IsNumberOf 4294967295 (word.one (codes "stream")) stream × IsNumberOf 65535 (word.one (codes "port")) port
 HasValues word (Serve source address connections reverse) = IsSourceOf (word.one (codes "settings")) source × (word.one (codes "address") ≡ Some (string_bytes address)) × IsCountOf 65535 (word.one (codes "connections")) connections × (reverse ≡ is_given (word.one (codes "reverse"))) × (are_many word ≡ false)
 HasValues word (ServeMany source address connections at_once patience) = IsSourceOf (word.one (codes "settings")) source × (word.one (codes "address") ≡ Some (string_bytes address)) × IsCountOf 4294967295 (word.one (codes "connections")) connections × IsCountOr 1 65535 (word.one (codes "at-once")) at_once × IsCountOr 30 86400 (word.one (codes "patience")) patience × (is_given (word.one (codes "reverse")) ≡ false) × (are_many word ≡ true)
 HasValues word (Ask question locales filter address url seconds form) = (word.one (codes "question") ≡ Some (name_of_question question)) × AreAskedTexts question word (locales, filter) × ArePlaces word (address, url) × IsCountOr 30 86400 (word.one (codes "timeout")) seconds × (form ≡ form_of (is_given (word.one (codes "all"))) (is_given (word.one (codes "json"))))

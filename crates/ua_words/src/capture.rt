@@ -1,6 +1,6 @@
 //! Where the bytes that `show` shows come from.
 
-/// Where the bytes of one direction are.
+/// Where the bytes are: those of one direction of a connection, or of a file of packets.
 #[derive(Debug, Drop)]
 pub enum Capture {
     /// On standard input.

@@ -227,7 +227,7 @@ fn show_in(alloc: Global, matches: &ArgMatches) -> Result<Command, WordFault>
     ensures asked { IfOk result (IsNamed (codes "show") (words_in (found_of matches.now))) }
     ensures refused { IfErr result (RefusedBy (IsNamed (codes "show") (words_in (found_of matches.now)))) }
 {
-    let form = form_by(false, is_flagged(matches, "json"));
+    let form = form_by(is_flagged(matches, "all"), is_flagged(matches, "json"));
     let Some(stream) = stream_in(matches) else {
         return Err(WordFault::Bad);
     };

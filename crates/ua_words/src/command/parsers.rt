@@ -96,7 +96,15 @@ fn show_parser<'a>(alloc: Global) -> Result<Parser<'a>, AllocError>
             "Of a capture of packets: the connections of this port in the place of 4840",
         ),
     );
-    with_word(with_port, json_flag(alloc))
+    let with_all = with_word(
+        with_port,
+        flag(
+            alloc,
+            "all",
+            "Prints all that servers answered, behind the line of each answer",
+        ),
+    );
+    with_word(with_all, json_flag(alloc))
 }
 
 /// A parser with the words by which several connections are served at once.
@@ -136,7 +144,7 @@ fn serve_parser<'a>(alloc: Global) -> Result<Parser<'a>, AllocError>
     let serve = command(
         alloc,
         "serve",
-        "Serves connections over TCP, one after the other, and says how each one ended",
+        "Serves connections over TCP, one after the other or several at once, and says how each one ended",
     );
     let with_settings = with_word(Ok(serve), settings_word(alloc));
     let with_address = with_word(
@@ -231,7 +239,13 @@ fn ask_parser<'a>(alloc: Global, names: &'a [&'a str]) -> Result<Parser<'a>, All
             "Listens at ADDR for a server that connects, and calls it by the url that it says",
         ),
     );
-    let with_timeout = with_word(with_reverse, timeout_word(alloc));
+    let with_timeout = with_word(
+        with_reverse,
+        timeout_word(
+            alloc,
+            "How many seconds the whole question has, from 1 to 86400; 30 where this is left out",
+        ),
+    );
     with_wishes(alloc, with_timeout)
 }
 
@@ -255,7 +269,13 @@ fn check_parser<'a>(alloc: Global) -> Result<Parser<'a>, AllocError>
             "The url by which the server is called, of at most 4095 bytes; left out where ADDR is it",
         ),
     );
-    with_word(with_url, timeout_word(alloc))
+    with_word(
+        with_url,
+        timeout_word(
+            alloc,
+            "How many seconds each of the two questions has, from 1 to 86400; 30 where this is left out",
+        ),
+    )
 }
 
 /// The program without its commands, with the texts of its help and its version.

@@ -20,6 +20,8 @@ fn are_many(matches: &ArgMatches) -> bool
     matches.get_str("at-once").is_some() || matches.get_str("patience").is_some()
 }
 
+/// What `serve` asks for: connections that are served several at a time where `--at-once` or `--patience` is there, else
+/// one after the other.
 pub fn serve_in(alloc: Global, matches: &ArgMatches) -> Result<Command, WordFault>
     ensures asked { IfOk result (IsNamed (codes "serve") (words_in (found_of matches.now))) }
     ensures refused { IfErr result (RefusedBy (IsNamed (codes "serve") (words_in (found_of matches.now)))) }
@@ -31,6 +33,7 @@ pub fn serve_in(alloc: Global, matches: &ArgMatches) -> Result<Command, WordFaul
     }
 }
 
+/// The same where several connections are served at once. The words may not say `--reverse`.
 fn serve_many_in(alloc: Global, matches: &ArgMatches) -> Result<Command, WordFault>
     requires { are_many (words_in (found_of matches.now)) ≡ true }
     ensures asked { IfOk result (IsNamed (codes "serve") (words_in (found_of matches.now))) }
@@ -73,6 +76,7 @@ fn serve_many_in(alloc: Global, matches: &ArgMatches) -> Result<Command, WordFau
     }
 }
 
+/// The same where connections are served one after the other, at most 65535 of them.
 fn serve_in_turn(alloc: Global, matches: &ArgMatches) -> Result<Command, WordFault>
     requires { are_many (words_in (found_of matches.now)) ≡ false }
     ensures asked { IfOk result (IsNamed (codes "serve") (words_in (found_of matches.now))) }

@@ -172,18 +172,12 @@ pub fn address_word<'a>(alloc: Global) -> Arg<'a>
     )
 }
 
-/// How long a question may take.
-pub fn timeout_word<'a>(alloc: Global) -> Arg<'a>
+/// How long a question may take, with its line in the help.
+pub fn timeout_word<'a>(alloc: Global, help: &'a str) -> Arg<'a>
     ensures local { result.global ≡ false }
     ensures rule { rule_of result ≡ number_rule (codes "timeout") 86400 }
 {
-    number_word(
-        alloc,
-        "timeout",
-        "SECONDS",
-        86400,
-        "How many seconds the whole question has, from 1 to 86400; 30 where this is left out",
-    )
+    number_word(alloc, "timeout", "SECONDS", 86400, help)
 }
 
 /// A parser of this name without words, with its line in the help.
