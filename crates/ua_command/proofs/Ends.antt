@@ -40,7 +40,7 @@ value_done words kind bytes form s (Ok status) asked untold value refused small 
 value_done words kind bytes form s (Err stop) asked untold value refused small = small
 
 pub show_done : (words : List Text) (capture : Capture) (form : Form) (stream port : Option ℕ) (s : Streams) (r : Result ℕ Stop) → AsksFor words (Show capture form stream port)
-    → IfOk r (ShowsCapture form capture s.left s.printed s.printed') → IfOk r (IsDone words s)
+    → IfOk r (ShowsCapture form capture s.left s.printed s.printed' s.told s.told') → IfOk r (IsDone words s)
 show_done words capture form stream port s (Ok status) asked h = inl (Show capture form stream port, asked, h, tt)
 show_done words capture form stream port s (Err stop) asked h = h
 

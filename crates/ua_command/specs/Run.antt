@@ -26,17 +26,25 @@ pub record Shows (form : Form) (s : Shape) (input : List ℕ) (old new : Option 
   pub refused : status ≡ 1 → RefusesIn form s input old new
   pub status_is : status ≤ 1
 
--- What a command does with its input and output, where nothing stops it. What is printed of a connection is not said: nothing is known of what a socket carries.
-abbrev pub Does : Command → Option (List ℕ) → Option (List ℕ) → Option (List ℕ) → ℕ → Type 0
-Does (Answer source reverse) left old new status = AnswersBy reverse source left old new status
-Does (Value kind bytes form) left old new status = Shows form (shape_of kind) bytes.items old new status
-Does (Show capture form stream port) left old new status = ShowsCapture form capture left old new status
-Does (Serve source address connections reverse) left old new status = Serves reverse source status
-Does (ServeMany source address connections at_once patience) left old new status = Serves false source status
-Does (Ask question locales filter address url seconds form) left old new status = IsAskStatus status
-Does (Check source address url seconds) left old new status = IsAskStatus status
+-- what a run has to do with: what the reader has left, and what the writers of what is printed and of what is told held before and hold then
+pub record Streams : Type 0 where
+  pub left : Option (List ℕ)
+  pub printed : Option (List ℕ)
+  pub printed' : Option (List ℕ)
+  pub told : Option (List ℕ)
+  pub told' : Option (List ℕ)
 
--- A command that is done tells nothing but where it is one over links, which tells where it listens, and how a link failed, or shows a file of packets, which tells what stopped it in its midst.
+-- What a command does with its input and output, where nothing stops it. What is printed of a connection is not said: nothing is known of what a socket carries.
+abbrev pub Does : Command → Streams → ℕ → Type 0
+Does (Answer source reverse) s status = AnswersBy reverse source s.left s.printed s.printed' status
+Does (Value kind bytes form) s status = Shows form (shape_of kind) bytes.items s.printed s.printed' status
+Does (Show capture form stream port) s status = ShowsCapture form capture s.left s.printed s.printed' s.told s.told' status
+Does (Serve source address connections reverse) s status = Serves reverse source status
+Does (ServeMany source address connections at_once patience) s status = Serves false source status
+Does (Ask question locales filter address url seconds form) s status = IsAskStatus status
+Does (Check source address url seconds) s status = IsAskStatus status
+
+-- A command that is done tells nothing but where it is one over links, which tells where it listens, and how a link failed, or shows a file of packets, which tells what stopped it in its midst: of `show` that is said above.
 abbrev pub TellsOf : Command → Option (List ℕ) → Option (List ℕ) → Type 0
 TellsOf (Answer source reverse) old new = new ≡ old
 TellsOf (Value kind bytes form) old new = new ≡ old
@@ -46,17 +54,9 @@ TellsOf (ServeMany source address connections at_once patience) old new = Unit {
 TellsOf (Ask question locales filter address url seconds form) old new = Unit {0}
 TellsOf (Check source address url seconds) old new = Unit {0}
 
--- what a run has to do with: what the reader has left, and what the writers of what is printed and of what is told held before and hold then
-pub record Streams : Type 0 where
-  pub left : Option (List ℕ)
-  pub printed : Option (List ℕ)
-  pub printed' : Option (List ℕ)
-  pub told : Option (List ℕ)
-  pub told' : Option (List ℕ)
-
 -- the command that the words ask for is done
 abbrev pub Done : List Text → Streams → ℕ → Type 0
-Done words s status = (c : Command) × AsksFor words c × Does c s.left s.printed s.printed' status × TellsOf c s.told s.told'
+Done words s status = (c : Command) × AsksFor words c × Does c s status × TellsOf c s.told s.told'
 
 -- a text stands behind what the writer held, where the words ask for help or the version
 pub record ShowsText (words : List Text) (old new : Option (List ℕ)) (status : ℕ) : Type 0 where

@@ -1,10 +1,11 @@
 -- What the command `show` reads and prints, and its exit status.
-use Rattle.std.specs.Prelude.{◌≡◌, ◌⊎◌, ◌≤◌, ◌++◌, true, ℕ, List, Option}
+use Rattle.std.specs.Prelude.{◌≡◌, ◌⊎◌, ◌≤◌, true, false, ℕ, List, Option}
 use Rattle.std.specs.Io.KnownBytes.{Appends}
 use Rattle.ua_capture.specs.Beginning.{is_capture}
 use Rattle.ua_command.specs.Answer.{IsInput}
 use Rattle.ua_command.specs.Printed.{PrintsSome}
 use Rattle.ua_print.specs.Capture.{shown}
+use Rattle.ua_trace.specs.Woven.{IsWoven}
 use Rattle.ua_words.specs.declared.form.Form.{Form}
 use Rattle.ua_words.specs.declared.form.Form.TheVariants.{Lines, Whole, Json}
 use Rattle.ua_words.specs.declared.capture.Capture.{Capture}
@@ -30,27 +31,42 @@ pub record ShowsJson (old new : Option (List ℕ)) (status : ℕ) : Type 0 where
   pub printed : PrintsSome old new
   pub status_is : status ≤ 1
 
+-- with all that servers answered, lines of answers stand between these lines, and the status is the same
+pub record ShowsWhole (bytes : List ℕ) (old new : Option (List ℕ)) (status : ℕ) : Type 0 where
+  pub text : List ℕ
+  pub woven : IsWoven (shown bytes).text text
+  pub printed : Appends old new text
+  pub status_is : status ≡ (shown bytes).status
+
 abbrev pub ShowsIn : Form → List ℕ → Option (List ℕ) → Option (List ℕ) → ℕ → Type 0
 ShowsIn Lines bytes old new status = ShowsBytes bytes old new status
-ShowsIn Whole bytes old new status = ShowsBytes bytes old new status
+ShowsIn Whole bytes old new status = ShowsWhole bytes old new status
 ShowsIn Json bytes old new status = ShowsJson old new status
+
+-- Raw bytes do not begin as a file of packets does. They are shown in a form, and nothing is told.
+pub record ShowsRaw (form : Form) (bytes : List ℕ) (old new told told' : Option (List ℕ)) (status : ℕ) : Type 0 where
+  pub raw : is_capture bytes ≡ false
+  pub printed : ShowsIn form bytes old new status
+  pub untold : told' ≡ told
 
 -- a file of packets ends with 0 or 1, or with 3 or 4 where a read or a write failed or memory ran out in its midst
 abbrev pub IsTraceStatus : ℕ → Type 0
 IsTraceStatus status = (status ≡ 0) ⊎ (status ≡ 1) ⊎ (status ≡ 3) ⊎ (status ≡ 4)
 
--- the bytes begin as a file of packets; what is printed of one is not said here
-pub record ShowsPackets (bytes : List ℕ) (status : ℕ) : Type 0 where
-  pub front : List ℕ
-  pub rest : List ℕ
-  pub whole : bytes ≡ front ++ rest
-  pub packets : is_capture front ≡ true
+-- The bytes begin as a file of packets; what is printed of one is not said here. Where nothing stopped it nothing is told.
+pub record ShowsPackets (bytes : List ℕ) (told told' : Option (List ℕ)) (status : ℕ) : Type 0 where
+  pub packets : is_capture bytes ≡ true
   pub status_is : IsTraceStatus status
+  pub untold : status ≤ 1 → told' ≡ told
+
+-- what these bytes come to: they are raw, or a file of packets, as their beginning says
+abbrev pub ShowsAll : Form → List ℕ → Option (List ℕ) → Option (List ℕ) → Option (List ℕ) → Option (List ℕ) → ℕ → Type 0
+ShowsAll form bytes old new told told' status = ShowsRaw form bytes old new told told' status ⊎ ShowsPackets bytes told told' status
 
 -- what the bytes that a reader gave come to, in a form
-abbrev pub ShowsFrom : Form → Option (List ℕ) → Option (List ℕ) → Option (List ℕ) → ℕ → Type 0
-ShowsFrom form left old new status = (bytes : List ℕ) × IsInput left bytes × (ShowsIn form bytes old new status ⊎ ShowsPackets bytes status)
+abbrev pub ShowsFrom : Form → Option (List ℕ) → Option (List ℕ) → Option (List ℕ) → Option (List ℕ) → Option (List ℕ) → ℕ → Type 0
+ShowsFrom form left old new told told' status = (bytes : List ℕ) × IsInput left bytes × ShowsAll form bytes old new told told' status
 
 -- the same of the bytes of a capture
-abbrev pub ShowsCapture : Form → Capture → Option (List ℕ) → Option (List ℕ) → Option (List ℕ) → ℕ → Type 0
-ShowsCapture form capture left old new status = (bytes : List ℕ) × IsCapture capture left bytes × (ShowsIn form bytes old new status ⊎ ShowsPackets bytes status)
+abbrev pub ShowsCapture : Form → Capture → Option (List ℕ) → Option (List ℕ) → Option (List ℕ) → Option (List ℕ) → Option (List ℕ) → ℕ → Type 0
+ShowsCapture form capture left old new told told' status = (bytes : List ℕ) × IsCapture capture left bytes × ShowsAll form bytes old new told told' status

@@ -69,7 +69,7 @@ where
 }
 
 /// Says in `why` that a file stopped the command, where one did.
-fn note(stop: &Stop, why: &mut Why) {
+pub fn note(stop: &Stop, why: &mut Why) {
     if let Stop::File = stop {
         *why = Why::File;
     }
@@ -142,11 +142,13 @@ where
                 stream,
                 port,
                 json: form == Form::Json,
+                all: form == Form::Whole,
             },
             form,
             input,
             output,
             errors,
+            why,
         ),
         Command::Serve {
             source,

@@ -1,20 +1,21 @@
 //! The command `show`: prints the frames in the raw bytes of one direction, or in a file of packets.
 
-ghost use Rattle.std.specs.Prelude.{◌≤◌, IfOk, IfErr};
-ghost use Rattle.ua_command.specs.Show.{IsTraceStatus, LeavesFor, ShowsBytes, ShowsJson, ShowsIn, ShowsFrom, ShowsCapture};
+ghost use Rattle.std.specs.Prelude.{◌≡◌, ◌≤◌, IfOk, IfErr};
+ghost use Rattle.ua_command.specs.Show.{IsTraceStatus, LeavesFor, ShowsBytes, ShowsWhole, ShowsJson, ShowsIn, ShowsFrom, ShowsCapture};
 ghost use Rattle.ua_command.specs.Stop.{IsFileStop, IsQuiet};
 
 use crate::begun::{Begun, begin};
 use crate::file::stop_of_open;
-use crate::run::told;
-use crate::stop::{Stop, print};
+use crate::run::{note, told};
+use crate::stop::{Stop, print, print_bytes};
+use crate::why::Why;
 use std::alloc::Global;
 use std::fs::File;
 use std::io::{Read, Write};
 use std::rt::Files;
 use ua_json::frames_json;
 use ua_print::lines_of;
-use ua_trace::{Choice, Trace};
+use ua_trace::{Choice, Trace, whole_lines_of};
 use ua_value::plumbing::let_go;
 use ua_words::{Capture, Form};
 
@@ -26,6 +27,17 @@ fn show_bytes<O: Write>(alloc: Global, bytes: &[u8], output: &mut O) -> Result<u
 {
     let (text, status) = lines_of(alloc, bytes)?;
     print(output, text.as_str())?;
+    Ok(status)
+}
+
+/// Prints the lines of these bytes with all that servers answered, and gives the exit status.
+fn show_whole<O: Write>(alloc: Global, bytes: &[u8], output: &mut O) -> Result<u8, Stop>
+    ensures ok { IfOk result (ShowsWhole bytes.now (O.contents output.old) (O.contents output.new)) }
+    ensures err { IfErr result IsFileStop }
+    ensures quiet { IfErr result (λ stop. IsQuiet stop (O.contents output.old) (O.contents output.new)) }
+{
+    let (text, status) = whole_lines_of(alloc, bytes)?;
+    print_bytes(output, text.as_slice())?;
     Ok(status)
 }
 
@@ -48,7 +60,8 @@ fn show_in<O: Write>(alloc: Global, bytes: &[u8], form: Form, output: &mut O) ->
 {
     match form {
         Form::Json => show_json(alloc, bytes, output),
-        Form::Lines | Form::Whole => show_bytes(alloc, bytes, output),
+        Form::Lines => show_bytes(alloc, bytes, output),
+        Form::Whole => show_whole(alloc, bytes, output),
     }
 }
 
@@ -141,7 +154,7 @@ fn trace_all<I: Read, O: Write>(
     came
 }
 
-/// The same, and tells on `errors` what ended it before.
+/// The same, and tells on `errors` what ended it before, and says in `why` what is known of that.
 fn trace_or_tell<I: Read, O: Write, E: Write>(
     alloc: Global,
     front: &[u8],
@@ -149,12 +162,17 @@ fn trace_or_tell<I: Read, O: Write, E: Write>(
     input: &mut I,
     output: &mut O,
     errors: &mut E,
+    why: &mut Why,
 ) -> u8
-    ensures { IsTraceStatus result }
+    ensures status { IsTraceStatus result }
+    ensures untold { result ≤ 1 → E.contents errors.new ≡ E.contents errors.old }
 {
     match trace_all(alloc, front, choice, input, output) {
         Ok(status) => status,
-        Err(stop) => told(&stop, errors),
+        Err(stop) => {
+            note(&stop, why);
+            told(&stop, errors)
+        }
     }
 }
 
@@ -166,8 +184,9 @@ fn show_from<I: Read, O: Write, E: Write>(
     input: &mut I,
     output: &mut O,
     errors: &mut E,
+    why: &mut Why,
 ) -> Result<u8, Stop>
-    ensures ok { IfOk result (ShowsFrom form (I.remaining input.old) (O.contents output.old) (O.contents output.new)) }
+    ensures ok { IfOk result (ShowsFrom form (I.remaining input.old) (O.contents output.old) (O.contents output.new) (E.contents errors.old) (E.contents errors.new)) }
     ensures err { IfErr result IsFileStop }
     ensures quiet { IfErr result (λ stop. IsQuiet stop (O.contents output.old) (O.contents output.new)) }
 {
@@ -180,19 +199,21 @@ fn show_from<I: Read, O: Write, E: Write>(
             input,
             output,
             errors,
+            why,
         )),
     }
 }
 
 /// Prints a line for each frame of a capture and each message that is whole with it, or an object of JSON in the place of
 /// each line, and gives the exit status: 0 where the last frame ends with the bytes, 1 where a frame is refused or cut,
-/// which the last line says.
+/// which the last line says. In the form of all that is known, the lines of each answer to FindServers or GetEndpoints
+/// stand under that of its message, each behind four blanks.
 ///
 /// A capture of raw bytes is read to its end before anything is printed; `File` says that it can't be. One of packets,
 /// which its first four bytes tell, is read piece by piece, and what is printed stands in front of what stops it then,
-/// which is told on `errors`: status 3 for a failed read or write, 4 for want of memory. `stream` and `port` choose among
-/// its connections; without `port` those of port 4840 are shown, and those that begin as OPC UA does. Of a capture in a
-/// file the input is left as it was.
+/// which is told on `errors`: status 3 for a failed read or write, of which `why` then says that it was a file, 4 for want
+/// of memory. `choice` says which of its connections are shown, by number and by port; without a port those of port 4840
+/// are, and those that begin as OPC UA does. Of a capture in a file the input is left as it was.
 pub fn show<R: Files + AllocGlobal, I: Read, O: Write, E: Write>(
     rt: &R,
     capture: &Capture,
@@ -201,16 +222,17 @@ pub fn show<R: Files + AllocGlobal, I: Read, O: Write, E: Write>(
     input: &mut I,
     output: &mut O,
     errors: &mut E,
+    why: &mut Why,
 ) -> Result<u8, Stop>
-    ensures ok { IfOk result (ShowsCapture form capture.now (I.remaining input.old) (O.contents output.old) (O.contents output.new)) }
+    ensures ok { IfOk result (ShowsCapture form capture.now (I.remaining input.old) (O.contents output.old) (O.contents output.new) (E.contents errors.old) (E.contents errors.new)) }
     ensures err { IfErr result IsFileStop }
     ensures unread { LeavesFor capture.now (I.remaining input.old) (I.remaining input.new) }
     ensures quiet { IfErr result (λ stop. IsQuiet stop (O.contents output.old) (O.contents output.new)) }
 {
     match capture {
-        Capture::Input => show_from(rt.alloc(), choice, form, input, output, errors),
+        Capture::Input => show_from(rt.alloc(), choice, form, input, output, errors, why),
         Capture::File(path) => match File::open(rt, path.as_str()) {
-            Ok(mut file) => show_from(rt.alloc(), choice, form, &mut file, output, errors),
+            Ok(mut file) => show_from(rt.alloc(), choice, form, &mut file, output, errors, why),
             Err(error) => Err(stop_of_open(&error)),
         },
     }

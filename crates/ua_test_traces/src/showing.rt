@@ -8,6 +8,7 @@ pub(crate) const ALL: Choice = Choice {
     stream: None,
     port: None,
     json: false,
+    all: false,
 };
 
 /// The same as JSON.

@@ -1,2 +1,4 @@
 pub mod Lines
+pub mod Under
 pub mod Walk
+pub mod Woven

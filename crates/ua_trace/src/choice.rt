@@ -11,6 +11,8 @@ pub struct Choice {
     pub port: Option<u16>,
     /// Whether lines are objects of JSON.
     pub json: bool,
+    /// Whether under the line of each answer all stands that the server said; among objects of JSON it never does.
+    pub all: bool,
 }
 
 /// Whether a connection is shown.

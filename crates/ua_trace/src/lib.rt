@@ -2,13 +2,16 @@
 //! (RFC 9293; OPC 10000-6, 6.7.2 and 7.1.2).
 #![tactic(auto)]
 
+mod answer;
 mod choice;
 mod lane;
 mod place;
 mod talk;
 mod trace;
 mod walk;
+mod whole;
 
 pub use choice::Choice;
 pub use trace::Trace;
 pub use ua_capture::is_capture;
+pub use whole::whole_lines_of;

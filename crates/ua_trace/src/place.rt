@@ -1,5 +1,6 @@
 //! Lines with what stands in front of each: the connection, the way and the moment.
 
+use crate::answer::add_under;
 use std::alloc::Global;
 use std::fmt;
 use std::net::{IpAddr, SocketAddr};
@@ -16,6 +17,8 @@ pub(crate) struct Form {
     pub(crate) json: bool,
     /// One connection is shown alone, so that only its ways are told apart.
     pub(crate) alone: bool,
+    /// Under the line of an answer stands all that the server said, where lines are no objects.
+    pub(crate) all: bool,
 }
 
 /// Where a line comes from.
@@ -143,7 +146,7 @@ impl Place {
         ua_print::add_frame(text, offset, size, content)
     }
 
-    /// Adds the line of a whole message.
+    /// Adds the line of a whole message, and under it those of the answer that it is, where they are asked for.
     pub(crate) fn add_message(
         self,
         alloc: Global,
@@ -155,7 +158,11 @@ impl Place {
             return ua_json::add_message(alloc, text, Some(self.origin()), request_id, &[body]);
         }
         self.add_front(text)?;
-        ua_print::add_message(alloc, text, request_id, body)
+        ua_print::add_message(alloc, text, request_id, body)?;
+        if self.form.all {
+            add_under(alloc, text, body)?;
+        }
+        Ok(())
     }
 
     /// Adds the line of a frame, or of what should be one, that is refused with this status.

@@ -71,6 +71,7 @@ impl Trace {
         Form {
             json: self.choice.json,
             alone: self.choice.stream.is_some(),
+            all: self.choice.all,
         }
     }
 
