@@ -8,9 +8,6 @@ use std::alloc::Global;
 use std::io::Read;
 use ua_trace::is_capture;
 
-/// The bytes that tell a file of packets from raw bytes.
-const TELLING: usize = 4;
-
 /// What an input begins with.
 #[derive(Drop)]
 pub enum Begun {
@@ -29,7 +26,6 @@ pub fn begin<I: Read>(alloc: Global, input: &mut I) -> Result<Begun, InputFault>
 {
     let mut all = Vec::new(alloc);
     let mut piece = [0u8; 4096];
-    let mut is_raw = false;
     'reads: for _ in 0..MOST_READS {
         let Ok(n) = input.read(&mut piece) else {
             return Err(InputFault::Failed);
@@ -40,11 +36,8 @@ pub fn begin<I: Read>(alloc: Global, input: &mut I) -> Result<Begun, InputFault>
         if all.extend_from_slice(&piece[..n]).is_err() {
             return Err(InputFault::NoMemory);
         }
-        if !is_raw && all.len() >= TELLING {
-            if is_capture(all.as_slice()) {
-                return Ok(Begun::Packets(all));
-            }
-            is_raw = true;
+        if is_capture(all.as_slice()) {
+            return Ok(Begun::Packets(all));
         }
     }
     Err(InputFault::Failed)

@@ -49,6 +49,8 @@ mod serving_many;
 #[cfg(test)]
 mod showing;
 #[cfg(test)]
+mod showing_whole;
+#[cfg(test)]
 mod streams;
 #[cfg(test)]
 mod turns;

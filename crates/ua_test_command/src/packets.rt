@@ -6,7 +6,8 @@ use std::io::Read;
 use std::net::Net;
 use std::process::Abort;
 use std::rt::{Clock, Files};
-use ua_command::run::run;
+use ua_command::run::{run, run_and_say};
+use ua_command::{Why, say_why};
 
 /// A file of pcap with one packet: an error frame that an OPC UA client sends to port 4840, seven microseconds behind the
 /// beginning of 1970 (draft-ietf-opsawg-pcap, 4 and 5; LINKTYPE_RAW; RFC 791, RFC 9293).
@@ -86,6 +87,8 @@ fn a_file_of_packets_is_shown(rt: HostRuntime) {
     expect_shown(&rt, &["show", "-", "--port", "50000"], FILE, 4096, 0, LINES);
     expect_shown(&rt, &["show", "-", "--stream", "1"], FILE, 4096, 0, "");
     expect_shown(&rt, &["show", "-", "--stream", "0"], FILE, 4096, 0, ALONE);
+    expect_shown(&rt, &["show", "-", "--all"], FILE, 4096, 0, LINES);
+    expect_shown(&rt, &["show", "--all", "-", "--json"], FILE, 7, 0, OBJECTS);
 }
 
 #[test]
@@ -110,6 +113,30 @@ fn a_file_of_packets_may_fail(rt: HostRuntime) {
         fails: true,
     };
     assert!(rt; shows(&rt, &["show", "-"], &mut input, 3, LINES, "file\n"));
+}
+
+/// What stops it in its midst, with the second line for people: a read that fails, or a write.
+fn is_said(rt: &HostRuntime, fails: bool, room: usize) -> bool {
+    let mut input = Pieces {
+        left: FILE,
+        most: 4096,
+        fails,
+    };
+    let (mut printed, mut told) = (Page::new(room), Page::new(4096));
+    let mut why = Why::Unknown;
+    let words = ["show", "-"];
+    let came = run_and_say(rt, &words, &mut input, &mut printed, &mut told, &mut why);
+    say_why(rt, &words, &why, &mut told);
+    came == 3 && told.text() == SAID.as_bytes()
+}
+
+const SAID: &str =
+    "file\n  standard input could not be read, or standard output not be written\n";
+
+#[test]
+fn what_stops_it_in_its_midst_is_said_to_people(rt: HostRuntime) {
+    assert!(rt; is_said(&rt, true, 4096));
+    assert!(rt; is_said(&rt, false, 80));
 }
 
 /// Whether the lines that find so much room are a beginning of all, and that they found no more is told.

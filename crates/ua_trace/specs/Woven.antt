@@ -1,5 +1,5 @@
 -- Lines of raw bytes, with all that servers answered in them.
-use Rattle.std.specs.Prelude.{◌≡◌, ◌≤◌, ℕ, List, [], ◌++◌, codes, length, take}
+use Rattle.std.specs.Prelude.{◌≡◌, ◌<◌, ◌≤◌, ◌-◌, ℕ, List, [], ◌++◌, codes, length, slice_index, take}
 use Rattle.ua_trace.specs.Under.{AreUnder}
 use Rattle.ua_trace.specs.declared.whole.Weaving.{Weaving}
 
@@ -11,7 +11,11 @@ pub data Woven : List ℕ → List ℕ → Type 0 where
 
 -- All of the usual text stands in the other one, in its order. What stands between is lines of answers, and behind the last of these what is left of the usual text.
 abbrev pub IsWoven : List ℕ → List ℕ → Type 0
-IsWoven usual text = (front woven rest : List ℕ) × Woven front woven × (usual ≡ front ++ rest) × (text ≡ woven ++ rest)
+IsWoven lines text = (front woven rest : List ℕ) × Woven front woven × (lines ≡ front ++ rest) × (text ≡ woven ++ rest)
+
+-- behind this place a line ends that begins at the other one, or before
+abbrev pub EndsLine : List ℕ → ℕ → ℕ → Type 0
+EndsLine lines from end = (from < end) × (end ≤ length lines) × (slice_index lines (end - 1) ≡ 10)
 
 -- so many bytes of the usual text stand there
 abbrev pub IsWeaving : Weaving → Type 0

@@ -1,9 +1,9 @@
 //! The lines of raw bytes, and under those of answers all that the servers said.
 
-ghost use Rattle.std.specs.Prelude.{◌≡◌, ◌≤◌, [], length, IfOk, OnOk, take, string_bytes};
+ghost use Rattle.std.specs.Prelude.{◌≡◌, ◌≤◌, [], length, IfOk, IfSome, OnOk, take, string_bytes};
 ghost use Rattle.ua_print.specs.Capture.{shown};
 ghost use Rattle.ua_trace.specs.Walk.{IsWithin};
-ghost use Rattle.ua_trace.specs.Woven.{IsWoven, IsWeaving};
+ghost use Rattle.ua_trace.specs.Woven.{EndsLine, IsWoven, IsWeaving};
 
 use crate::answer::lines_under;
 use std::alloc::{AllocError, Global};
@@ -22,21 +22,29 @@ struct Weaving<'a> {
     text: Vec<u8>,
 }
 
+/// The place behind the line that begins at a place, if its end is there.
+fn line_end(lines: &[u8], from: usize) -> Option<usize>
+    ensures { IfSome result (EndsLine lines.now from) }
+{
+    let mut at = from;
+    'bytes: while at < lines.len() {
+        if lines[at] == b'\n' {
+            return Some(at + 1);
+        }
+        at += 1;
+    }
+    None
+}
+
 /// Puts the next of the usual lines behind the text.
 fn add_line(woven: &mut Weaving) -> Result<(), NoMemory>
     requires { IsWeaving woven.old }
     ensures weaving { OnOk result (IsWeaving woven.new) }
     ensures usual { woven.new.usual ≡ woven.old.usual }
 {
-    let usual = woven.usual;
-    let mut end = woven.at;
-    'bytes: while end < usual.len() {
-        if usual[end] == b'\n' {
-            woven.text.extend_from_slice(&usual[woven.at..end + 1])?;
-            woven.at = end + 1;
-            return Ok(());
-        }
-        end += 1;
+    if let Some(end) = line_end(woven.usual, woven.at) {
+        woven.text.extend_from_slice(&woven.usual[woven.at..end])?;
+        woven.at = end;
     }
     Ok(())
 }
