@@ -1,5 +1,5 @@
 -- What raw bytes and a file of packets come to, from the first bytes of an input.
-use Rattle.std.proofs.Common.{◌≡◌, ◌++◌, ◌+◌, ◌<◌, ◌≤◌, ◌&&◌, ℕ, Bool, List, Option, Some, None, Result, Ok, Err, IfOk, not, nat_lt, length, arith, refl, subst, sym, true, false, inl, inr}
+use Rattle.std.proofs.Common.{◌≡◌, ◌++◌, ◌≤◌, ℕ, Bool, List, Option, Some, None, Result, Ok, Err, IfOk, not, nat_lt, length, arith, refl, subst, sym, true, false, inl, inr}
 use Rattle.std.proofs.lemmas.Bool.{and_parts, le-ltb, ltb-false}
 use Rattle.std.proofs.lemmas.List.{get_or_append_left, length-append}
 use Rattle.std.specs.Io.KnownBytes.{Consumes}

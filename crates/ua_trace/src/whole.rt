@@ -1,6 +1,6 @@
 //! The lines of raw bytes, and under those of answers all that the servers said.
 
-ghost use Rattle.std.specs.Prelude.{◌≡◌, ◌≤◌, [], length, IfOk, IfSome, OnOk, take, string_bytes};
+ghost use Rattle.std.specs.Prelude.{◌≡◌, ◌+◌, ◌≤◌, length, IfOk, IfSome, OnOk};
 ghost use Rattle.ua_print.specs.Capture.{shown};
 ghost use Rattle.ua_trace.specs.Walk.{IsWithin};
 ghost use Rattle.ua_trace.specs.Woven.{EndsLine, IsWoven, IsWeaving};

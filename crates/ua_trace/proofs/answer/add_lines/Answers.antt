@@ -1,4 +1,4 @@
-use Rattle.std.proofs.Common.{rules, arith}
+use Rattle.std.proofs.Common.{arith}
 use Rattle.std.proofs.lemmas.Str.Pattern.{split_once_first}
 use Rattle.ua_trace.proofs.Weave.{line_before}
 use Rattle.ua_trace.proofs.answer.add_lines.Goals as goal

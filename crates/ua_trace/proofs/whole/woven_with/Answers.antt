@@ -1,4 +1,4 @@
-use Rattle.std.proofs.Common.{rules, subst, sym, arith}
+use Rattle.std.proofs.Common.{subst, sym, arith}
 use Rattle.ua_trace.specs.Woven.{Woven, none}
 use Rattle.ua_trace.proofs.whole.woven_with.Goals as goal
 
