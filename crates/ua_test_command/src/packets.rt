@@ -130,8 +130,7 @@ fn is_said(rt: &HostRuntime, fails: bool, room: usize) -> bool {
     came == 3 && told.text() == SAID.as_bytes()
 }
 
-const SAID: &str =
-    "file\n  standard input could not be read, or standard output not be written\n";
+const SAID: &str = "file\n  standard input could not be read, or standard output not be written\n";
 
 #[test]
 fn what_stops_it_in_its_midst_is_said_to_people(rt: HostRuntime) {

@@ -84,8 +84,10 @@ fn shows<R: Files + Net + Clock + AllocGlobal>(
 fn are_shown(rt: &HostRuntime) -> Result<bool, AllocError> {
     let bytes = answers(rt.alloc())?;
     let usual = usual_lines(rt.alloc())?;
-    Ok(shows(rt, &["--all"], bytes.as_slice(), LINES)?
-        && shows(rt, &[], bytes.as_slice(), usual.as_str())?)
+    Ok(
+        shows(rt, &["--all"], bytes.as_slice(), LINES)?
+            && shows(rt, &[], bytes.as_slice(), usual.as_str())?,
+    )
 }
 
 #[test]
@@ -133,7 +135,14 @@ fn the_words_say_the_form(rt: HostRuntime) {
 
 #[test]
 fn what_is_no_frame_ends_the_lines(rt: HostRuntime) {
-    expect(&rt, &["show", "-", "--all"], "GET / HTTP/1.1", 1, "0 bad 807E0000\n", "");
+    expect(
+        &rt,
+        &["show", "-", "--all"],
+        "GET / HTTP/1.1",
+        1,
+        "0 bad 807E0000\n",
+        "",
+    );
     expect(&rt, &["show", "-", "--all"], "HELF", 1, "0 rest 4\n", "");
     expect(&rt, &["show", "absent.bin", "--all"], "", 3, "", "file\n");
 }
@@ -142,7 +151,13 @@ fn what_is_no_frame_ends_the_lines(rt: HostRuntime) {
 fn shown_or_not(rt: &HostRuntime) -> bool {
     let mut input = FIND_RESPONSE;
     let (mut printed, mut told) = (Page::new(4096), Page::new(4096));
-    match run(rt, &["show", "-", "--all"], &mut input, &mut printed, &mut told) {
+    match run(
+        rt,
+        &["show", "-", "--all"],
+        &mut input,
+        &mut printed,
+        &mut told,
+    ) {
         0 => LINES.as_bytes().starts_with(printed.text()) && printed.len > 250,
         status => status == 4 && are_written(&printed, &told, "", "memory\n"),
     }
