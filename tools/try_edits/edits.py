@@ -14,7 +14,8 @@ Function = collections.namedtuple("Function", "file name owner first body last")
 # What is judged as one: some pairs of an edit, the line of the first, and the functions that they change. A `const` that functions
 # alone name changes these. What else changes no body (a field, a `use`, a `const` that another one names) is checked alone, and
 # judged by the functions that the other pairs change or that name the `const`. The arm is that of a `match` which one pair changes.
-Place = collections.namedtuple("Place", "edit pairs line functions is_alone arm")
+# A place shares a check only with places whose edits say the same of where they stand apart.
+Place = collections.namedtuple("Place", "edit pairs line functions is_alone arm apart")
 # An arm of a `match`: the line of the `match`, and the variant that the arm is for, for which the function has no other arm.
 Arm = collections.namedtuple("Arm", "match variant")
 
@@ -148,6 +149,7 @@ def arm_of(pair, source, line, function):
     return Arm(above[-1], old[1]) if above else None
 
 
+APART = re.compile(r"^apart: (.+)", re.M)
 CONST = re.compile(r"\b([A-Z][A-Z0-9_]+): ")
 # A line in which naming a `const` reads nothing of it.
 READS_NOTHING = re.compile(r"\s*(?:(?:pub(?:\([^)]*\))? )?use |//)")
@@ -171,7 +173,7 @@ def readers_of(crate, pair):
 
 def places_of(crate, edit):
     """The places of an edit, or why it cannot be applied."""
-    pairs = list(pairs_of(read(edit)))
+    pairs, apart = list(pairs_of(read(edit))), "".join(APART.findall(read(edit)))
     texts, places, is_one, is_alone = {}, [], False, False
     if not pairs:
         return [], "it has no pair of old and new"
@@ -191,11 +193,11 @@ def places_of(crate, edit):
         readers, is_read_there_alone = ([function], True) if function else readers_of(crate, pair)
         is_alone = is_alone or not is_read_there_alone
         is_one = is_one or source.count(pair.old) != 1 or function is None
-        places.append(Place(edit, [pair], line, readers, False, arm_of(pair, source, line, function) if function else None))
+        places.append(Place(edit, [pair], line, readers, False, arm_of(pair, source, line, function) if function else None, apart))
     if not is_one:
         return places, None
     functions = list(dict.fromkeys(function for it in places for function in it.functions))
-    return [Place(edit, pairs, places[0].line, functions, is_alone, None)], None
+    return [Place(edit, pairs, places[0].line, functions, is_alone, None, apart)], None
 
 
 def edits_of(crate):
@@ -215,7 +217,9 @@ def key_of(function):
 
 
 def may_share(place, other):
-    """Whether two places may be in one check: they change no function both, or in it other arms of one `match`."""
+    """Whether two places may be in one check: they stand apart from the same, and change no function both, or in it other arms of one `match`."""
+    if place.apart != other.apart:
+        return False
     if not {key_of(it) for it in place.functions} & {key_of(it) for it in other.functions}:
         return True
     return bool(place.arm and other.arm) and place.arm.match == other.arm.match and place.arm.variant != other.arm.variant
