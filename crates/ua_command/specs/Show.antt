@@ -3,7 +3,8 @@ use Rattle.std.specs.Prelude.{◌≡◌, ◌⊎◌, ◌≤◌, true, false, ℕ,
 use Rattle.std.specs.Io.KnownBytes.{Appends}
 use Rattle.ua_capture.specs.Beginning.{is_capture}
 use Rattle.ua_command.specs.Answer.{IsInput}
-use Rattle.ua_command.specs.Printed.{PrintsSome}
+use Rattle.ua_json.specs.Lines.{AreLines}
+use Rattle.ua_json.specs.Told.{told as told_in_json}
 use Rattle.ua_print.specs.Capture.{shown}
 use Rattle.ua_trace.specs.Woven.{IsWoven}
 use Rattle.ua_words.specs.declared.form.Form.{Form}
@@ -26,10 +27,12 @@ pub record ShowsBytes (bytes : List ℕ) (old new : Option (List ℕ)) (status :
   pub printed : Appends old new (shown bytes).text
   pub status_is : status ≡ (shown bytes).status
 
--- in JSON some text does, which is not said here, and the status is 0 or 1
-pub record ShowsJson (old new : Option (List ℕ)) (status : ℕ) : Type 0 where
-  pub printed : PrintsSome old new
-  pub status_is : status ≤ 1
+-- in JSON so many lines do, an object each, and the status is the same
+pub record ShowsJson (bytes : List ℕ) (old new : Option (List ℕ)) (status : ℕ) : Type 0 where
+  pub text : List ℕ
+  pub lines : AreLines (told_in_json bytes).lines text
+  pub printed : Appends old new text
+  pub status_is : status ≡ (shown bytes).status
 
 -- with all that servers answered, lines of answers stand between these lines, and the status is the same
 pub record ShowsWhole (bytes : List ℕ) (old new : Option (List ℕ)) (status : ℕ) : Type 0 where
@@ -41,7 +44,7 @@ pub record ShowsWhole (bytes : List ℕ) (old new : Option (List ℕ)) (status :
 abbrev pub ShowsIn : Form → List ℕ → Option (List ℕ) → Option (List ℕ) → ℕ → Type 0
 ShowsIn Lines bytes old new status = ShowsBytes bytes old new status
 ShowsIn Whole bytes old new status = ShowsWhole bytes old new status
-ShowsIn Json bytes old new status = ShowsJson old new status
+ShowsIn Json bytes old new status = ShowsJson bytes old new status
 
 -- Raw bytes do not begin as a file of packets does. They are shown in a form, and nothing is told.
 pub record ShowsRaw (form : Form) (bytes : List ℕ) (old new told told' : Option (List ℕ)) (status : ℕ) : Type 0 where

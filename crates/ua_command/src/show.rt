@@ -43,13 +43,13 @@ fn show_whole<O: Write>(alloc: Global, bytes: &[u8], output: &mut O) -> Result<u
 
 /// Prints these bytes in JSON, and gives the exit status.
 fn show_json<O: Write>(alloc: Global, bytes: &[u8], output: &mut O) -> Result<u8, Stop>
-    ensures ok { IfOk result (ShowsJson (O.contents output.old) (O.contents output.new)) }
+    ensures ok { IfOk result (ShowsJson bytes.now (O.contents output.old) (O.contents output.new)) }
     ensures err { IfErr result IsFileStop }
     ensures quiet { IfErr result (λ stop. IsQuiet stop (O.contents output.old) (O.contents output.new)) }
 {
     let (text, status) = frames_json(alloc, bytes)?;
     print(output, text.as_str())?;
-    Ok(u8::from(status != 0))
+    Ok(status)
 }
 
 /// Prints these bytes in this form, and gives the exit status.
