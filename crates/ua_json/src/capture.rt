@@ -10,10 +10,8 @@ use crate::frame::{add_bad, add_frame, add_message, add_rest};
 use std::alloc::{AllocError, Global};
 use ua_chunk::{Chunk, Content, ContentFault, content_of};
 use ua_frame::{Frame, frame_at};
+use ua_print::LONGEST;
 use ua_value::NoMemory;
-
-/// Bytes of the longest frame that is shown.
-const LONGEST: u32 = 1_048_576;
 
 /// Bytes of a frame's header.
 const HEADER: usize = 8;

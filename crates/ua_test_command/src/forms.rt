@@ -74,7 +74,7 @@ fn prints_or_not(alloc: Global, form: Form, output: &str) -> bool {
     }
 }
 
-const WHOLE_APPLICATION: &str = "application \"urn:a\" type=0 name=\"Press\"
+pub(crate) const WHOLE_APPLICATION: &str = "application \"urn:a\" type=0 name=\"Press\"
   product \"urn:p\"
   locale \"en\"
   type Server
@@ -83,7 +83,7 @@ const WHOLE_APPLICATION: &str = "application \"urn:a\" type=0 name=\"Press\"
   url \"opc.tcp://localhost:4840\"
 ";
 
-const WHOLE_ENDPOINT: &str =
+pub(crate) const WHOLE_ENDPOINT: &str =
     "endpoint \"opc.tcp://localhost:4840\" mode=1 policy=\"http://opcfoundation.org/UA/SecurityPolicy#None\" transport=\"http://opcfoundation.org/UA-Profile/Transport/uatcp-uasc-uabinary\" level=0
   mode None
   certificate null

@@ -1,5 +1,6 @@
 //! `show --all`: all that servers answered, under the lines of their answers.
 
+use crate::forms::{WHOLE_APPLICATION, WHOLE_ENDPOINT};
 use crate::runs::{Page, are_written, ends_so, expect};
 use crate::vectors::{ABORT_TOO_LARGE, ENDPOINTS_RESPONSE, FAULT_RESPONSE, FIND_RESPONSE};
 use std::alloc::{AllocError, Global};
@@ -20,40 +21,47 @@ fn answers(alloc: Global) -> Result<Vec<u8>, AllocError> {
     Ok(bytes)
 }
 
-const LINES: &str = "0 MSG F 134 channel=1 token=1 sequence=2 request=2 body=110
+/// The lines of each message, and of what a server said in it those of `ask --all`; behind the answers what comes in their
+/// place.
+const LINES: [(&str, &str); 3] = [
+    (
+        "0 MSG F 134 channel=1 token=1 sequence=2 request=2 body=110
   message request=2 type=i=425 size=110
-    application \"urn:a\" type=0 name=\"Press\"
-      product \"urn:p\"
-      locale \"en\"
-      type Server
-      gateway null
-      profile null
-      url \"opc.tcp://localhost:4840\"
-134 MSG F 316 channel=1 token=1 sequence=2 request=2 body=292
+",
+        WHOLE_APPLICATION,
+    ),
+    (
+        "134 MSG F 316 channel=1 token=1 sequence=2 request=2 body=292
   message request=2 type=i=431 size=292
-    endpoint \"opc.tcp://localhost:4840\" mode=1 policy=\"http://opcfoundation.org/UA/SecurityPolicy#None\" transport=\"http://opcfoundation.org/UA-Profile/Transport/uatcp-uasc-uabinary\" level=0
-      mode None
-      certificate null
-      token \"0\" type=0 Anonymous issued=null issuer=null policy=null
-      server \"urn:a\" type=0 name=\"Press\"
-        product \"urn:p\"
-        locale \"en\"
-        type Server
-        gateway null
-        profile null
-        url \"opc.tcp://localhost:4840\"
-450 MSG F 52 channel=1 token=1 sequence=2 request=2 body=28
+",
+        WHOLE_ENDPOINT,
+    ),
+    (
+        "450 MSG F 52 channel=1 token=1 sequence=2 request=2 body=28
   message request=2 type=i=397 size=28
 502 MSG A 32 channel=1 token=1 sequence=2 request=2 body=8
-";
+",
+        "",
+    ),
+];
 
-/// The lines that do not begin with four blanks.
-fn usual_lines(alloc: Global) -> Result<String, AllocError> {
+/// Adds the lines of a text, each behind four blanks.
+fn add_under(text: &mut String, lines: &str) -> Result<(), AllocError> {
+    for line in lines.lines() {
+        text.push_str("    ")?;
+        text.push_str(line)?;
+        text.push_str("\n")?;
+    }
+    Ok(())
+}
+
+/// The lines of so many of these, `whole` with what the servers said.
+fn lines(alloc: Global, count: usize, whole: bool) -> Result<String, AllocError> {
     let mut text = String::new(alloc);
-    for line in LINES.lines() {
-        if !line.starts_with("    ") {
-            text.push_str(line)?;
-            text.push_str("\n")?;
+    for (usual, under) in &LINES[..count.min(LINES.len())] {
+        text.push_str(usual)?;
+        if whole {
+            add_under(&mut text, under)?;
         }
     }
     Ok(text)
@@ -83,9 +91,10 @@ fn shows<R: Files + Net + Clock + AllocGlobal>(
 
 fn are_shown(rt: &HostRuntime) -> Result<bool, AllocError> {
     let bytes = answers(rt.alloc())?;
-    let usual = usual_lines(rt.alloc())?;
+    let whole = lines(rt.alloc(), 3, true)?;
+    let usual = lines(rt.alloc(), 3, false)?;
     Ok(
-        shows(rt, &["--all"], bytes.as_slice(), LINES)?
+        shows(rt, &["--all"], bytes.as_slice(), whole.as_str())?
             && shows(rt, &[], bytes.as_slice(), usual.as_str())?,
     )
 }
@@ -149,6 +158,9 @@ fn what_is_no_frame_ends_the_lines(rt: HostRuntime) {
 
 /// Whether the answers are shown, or memory refused with nothing printed.
 fn shown_or_not(rt: &HostRuntime) -> bool {
+    let Ok(wanted) = lines(rt.alloc(), 1, true) else {
+        return true;
+    };
     let mut input = FIND_RESPONSE;
     let (mut printed, mut told) = (Page::new(4096), Page::new(4096));
     match run(
@@ -158,7 +170,7 @@ fn shown_or_not(rt: &HostRuntime) -> bool {
         &mut printed,
         &mut told,
     ) {
-        0 => LINES.as_bytes().starts_with(printed.text()) && printed.len > 250,
+        0 => printed.text() == wanted.as_bytes(),
         status => status == 4 && are_written(&printed, &told, "", "memory\n"),
     }
 }

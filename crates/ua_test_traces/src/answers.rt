@@ -11,7 +11,7 @@ use ua_trace::{Choice, whole_lines_of};
 pub(crate) const WHOLE: Choice = Choice { all: true, ..ALL };
 
 /// The body of an answer to FindServers: one application.
-const FOUND: &[u8] =
+pub(crate) const FOUND: &[u8] =
     b"\x01\0\xA9\x01\0\0\0\0\0\0\0\0\x02\0\0\0\0\0\0\0\0\xFF\xFF\xFF\xFF\0\0\0\x01\0\0\0\x05\0\0\0urn:a\x05\0\0\0urn:p\x03\x02\0\0\0en\x05\0\0\0Press\0\0\0\0\xFF\xFF\xFF\xFF\xFF\xFF\xFF\xFF\x01\0\0\0\x18\0\0\0opc.tcp://localhost:4840";
 
 /// The same with a byte more, which is no such body.
@@ -37,7 +37,7 @@ fn put_part(frames: &mut Vec<u8>, flag: u8, body: &[u8]) -> Result<(), AllocErro
 
 /// A message whose first part has so many bytes, its second none, and its third the rest; of one part where the first has
 /// none.
-fn message_of(alloc: Global, body: &[u8], first: usize) -> Result<Vec<u8>, AllocError> {
+pub(crate) fn message_of(alloc: Global, body: &[u8], first: usize) -> Result<Vec<u8>, AllocError> {
     let mut frames = Vec::new(alloc);
     let cut = first.min(body.len());
     if cut > 0 {

@@ -10,6 +10,8 @@ mod files;
 #[cfg(test)]
 mod json;
 #[cfg(test)]
+mod late;
+#[cfg(test)]
 mod limits;
 #[cfg(test)]
 mod making;

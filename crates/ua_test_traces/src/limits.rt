@@ -1,6 +1,6 @@
 //! What is beyond the most that is kept: of a direction behind a gap, of a message, and of connections.
 
-use crate::making::{HELLO, MESSAGE, START, Sent, put, put_32, put_header, put_sent};
+use crate::making::{HELLO, START, Sent, put, put_32, put_header, put_sent};
 use crate::showing::ALL;
 use std::alloc::{AllocError, Global};
 use std::test::Fail;
@@ -26,7 +26,7 @@ fn feed_out(
 }
 
 /// Feeds the packet of a segment.
-fn feed_sent(
+pub(crate) fn feed_sent(
     alloc: Global,
     trace: &mut Trace,
     sent: &Sent,
@@ -38,7 +38,11 @@ fn feed_sent(
 }
 
 /// Feeds the header of a file.
-fn feed_header(alloc: Global, trace: &mut Trace, text: &mut String) -> Result<(), AllocError> {
+pub(crate) fn feed_header(
+    alloc: Global,
+    trace: &mut Trace,
+    text: &mut String,
+) -> Result<(), AllocError> {
     let mut piece = Vec::new(alloc);
     put_header(&mut piece)?;
     trace.feed(piece.as_slice(), text)
@@ -144,54 +148,6 @@ fn feed_crowd(alloc: Global, trace: &mut Trace, text: &mut String) -> Result<boo
     Ok(status == 1 && text.as_str() == "unfollowed 2\n")
 }
 
-/// Feeds so many messages from the port 50000 to 4841, and then a Hello the other way.
-fn feed_messages(
-    alloc: Global,
-    trace: &mut Trace,
-    count: u32,
-    text: &mut String,
-) -> Result<(), AllocError> {
-    let mut sent = Sent {
-        at: (START, 0),
-        from: 50000,
-        to: 4841,
-        sequence: 7,
-        flags: 24,
-        payload: MESSAGE,
-    };
-    for _ in 0..count {
-        feed_sent(alloc, trace, &sent, text)?;
-        sent.sequence = sent.sequence.wrapping_add(26);
-    }
-    let hello = Sent {
-        from: 4841,
-        to: 50000,
-        payload: HELLO,
-        ..sent
-    };
-    feed_sent(alloc, trace, &hello, text)
-}
-
-const HELD_LINES: &str = "stream 0 2026-11-29T01:02:03.000000000Z 192.0.2.1:50000 > 192.0.2.2:4841
-0> 2026-11-29T01:02:03.000000000Z 0 MSG F 26 channel=1 token=1 sequence=2 request=2 body=2
-0> 2026-11-29T01:02:03.000000000Z   message request=2 type=i=72 size=2
-0< 2026-11-29T01:02:03.000000000Z 0 HEL 32 version=0 receive=65535 send=65535 message=0 chunks=0 url=null
-";
-
-/// Whether a connection that only its second way tells shows that, behind so many messages.
-fn feed_held(
-    alloc: Global,
-    trace: &mut Trace,
-    count: u32,
-    wanted: &str,
-    text: &mut String,
-) -> Result<bool, AllocError> {
-    feed_header(alloc, trace, text)?;
-    feed_messages(alloc, trace, count, text)?;
-    let status = trace.end(text)?;
-    Ok(status == 0 && text.as_str() == wanted)
-}
-
 const OF_ANOTHER_PORT: Choice = Choice {
     port: Some(4841),
     ..ALL
@@ -218,22 +174,5 @@ fn connections_that_are_not_followed_are_counted(rt: HostRuntime) -> Result<(), 
     let mut text = String::new(rt.alloc());
     let mut trace = Trace::new(rt.alloc(), OF_ANOTHER_PORT)?;
     assert!(rt; feed_crowd(rt.alloc(), &mut trace, &mut text)?);
-    Ok(())
-}
-
-#[test]
-fn lines_are_held_until_the_other_way_tells(rt: HostRuntime) -> Result<(), Fail> {
-    let mut text = String::new(rt.alloc());
-    let mut trace = Trace::new(rt.alloc(), ALL)?;
-    assert!(rt; feed_held(rt.alloc(), &mut trace, 1, HELD_LINES, &mut text)?);
-    Ok(())
-}
-
-/// The lines of a message have more than 130 bytes, so 505 messages have more than 65536.
-#[test]
-fn no_more_than_64_kib_of_lines_are_held(rt: HostRuntime) -> Result<(), Fail> {
-    let mut text = String::new(rt.alloc());
-    let mut trace = Trace::new(rt.alloc(), ALL)?;
-    assert!(rt; feed_held(rt.alloc(), &mut trace, 505, "", &mut text)?);
     Ok(())
 }

@@ -123,7 +123,7 @@ impl Lane {
         Ok(())
     }
 
-    /// Says once that segments differ, where they do.
+    /// Says once that segments differ, where they do: at the first byte that the packet made ready, or behind it.
     fn add_difference(
         &mut self,
         alloc: Global,
@@ -133,12 +133,26 @@ impl Lane {
     ) -> Result<(), NoMemory> {
         if side.has_difference() && !self.differs {
             self.differs = true;
-            place.add_note(alloc, text, self.next(), Note::Differs)?;
+            let from = self.next().saturating_sub(side.ready().len());
+            place.add_note(alloc, text, from, Note::Differs)?;
         }
         Ok(())
     }
 
-    /// Takes the bytes that a packet made ready, and adds the lines of what is whole with them; where the direction was
+    /// Takes in the bytes that a packet made ready, and what the way begins with.
+    pub(crate) fn bring(&mut self, moment: Option<u64>, side: &Side) -> Result<(), NoMemory> {
+        if self.ended {
+            return Ok(());
+        }
+        self.moment = moment;
+        self.bytes.extend_from_slice(side.ready())?;
+        if self.opening == Opening::Unknown {
+            self.opening = opening_of(&self.bytes);
+        }
+        Ok(())
+    }
+
+    /// Adds the lines of what is whole with the bytes that a packet made ready, which were taken in; where the direction was
     /// stopped, those of its end.
     pub(crate) fn take(
         &mut self,
@@ -150,12 +164,7 @@ impl Lane {
         if self.ended {
             return Ok(());
         }
-        self.moment = place.moment;
         self.add_difference(alloc, place, side, text)?;
-        self.bytes.extend_from_slice(side.ready())?;
-        if self.opening == Opening::Unknown {
-            self.opening = opening_of(&self.bytes);
-        }
         self.add_whole(alloc, place, text)?;
         if side.is_stopped() {
             self.end(alloc, place, side, text)?;

@@ -1,14 +1,19 @@
 //! A connection.
 
+ghost use Rattle.std.specs.Prelude.{◌≡◌, ◌≤◌, ◌⊎◌, OnOk};
+ghost use Rattle.ua_trace.specs.declared.choice.Shown.TheVariants.{Unknown, Yes};
+ghost use Rattle.ua_trace.specs.declared.lane.Opening.TheVariants.{Hello};
+
 use crate::choice::Shown;
 use crate::lane::{Lane, Opening};
 use crate::place::{Form, Place, add_first};
 use std::alloc::Global;
-use ua_stream::{Connection, Way};
+use ua_stream::{Connection, Side, Way};
 use ua_value::NoMemory;
 
-/// The most bytes of lines that are kept of a connection until its first bytes tell whether it is shown.
-const MOST_HELD: usize = 65536;
+/// The most bytes of both ways that are taken in until the first bytes of one tell whether a connection is shown: those of
+/// the longest frame. The lines of a frame have at most sixteen times its bytes, in any form, so at most 16 MiB are held.
+const MOST_UNJUDGED: usize = 1_048_576;
 
 /// A connection, as far as it is shown.
 #[derive(Drop)]
@@ -16,10 +21,27 @@ pub(crate) struct Talk {
     shown: Shown,
     /// The moment of its first packet.
     began: Option<u64>,
+    /// How many bytes of both ways came in order while it was not known whether it is shown.
+    came: usize,
     /// Its lines, while it is not known whether they are shown.
     held: String,
     forth: Lane,
     back: Lane,
+}
+
+/// Whether a connection is shown whose ways begin so, of which so many bytes came. In which form lines are written does not
+/// count, so each form shows the same connections.
+fn judged(forth: Opening, back: Opening, came: usize) -> Shown
+    ensures hello { forth ≡ Hello ⊎ back ≡ Hello → result ≡ Yes }
+    ensures other { result ≡ Yes → forth ≡ Hello ⊎ back ≡ Hello }
+    ensures bound { result ≡ Unknown → came ≤ 1048576 }
+{
+    match (forth, back) {
+        (Opening::Hello, _) | (_, Opening::Hello) => Shown::Yes,
+        (Opening::Other, Opening::Other) => Shown::No,
+        _ if came > MOST_UNJUDGED => Shown::No,
+        _ => Shown::Unknown,
+    }
 }
 
 impl Talk {
@@ -28,6 +50,7 @@ impl Talk {
         Talk {
             shown,
             began,
+            came: 0,
             held: String::new(alloc),
             forth: Lane::new(alloc),
             back: Lane::new(alloc),
@@ -59,29 +82,29 @@ impl Talk {
         connection: &Connection,
         text: &mut String,
     ) -> Result<(), NoMemory> {
+        if self.shown == Shown::No {
+            return Ok(());
+        }
         let side = connection.side(place.way);
+        self.bring(place, side)?;
+        if self.shown == Shown::Unknown {
+            self.came = self.came.saturating_add(side.ready().len());
+            self.decide(alloc, place, connection, text)?;
+        }
         match (self.shown, place.way) {
             (Shown::No, _) => Ok(()),
             (Shown::Yes, Way::Forth) => self.forth.take(alloc, place, side, text),
             (Shown::Yes, Way::Back) => self.back.take(alloc, place, side, text),
-            (Shown::Unknown, Way::Forth) => {
-                self.forth.take(alloc, place, side, &mut self.held)?;
-                self.decide(alloc, place, connection, text)
-            }
-            (Shown::Unknown, Way::Back) => {
-                self.back.take(alloc, place, side, &mut self.held)?;
-                self.decide(alloc, place, connection, text)
-            }
+            (Shown::Unknown, Way::Forth) => self.forth.take(alloc, place, side, &mut self.held),
+            (Shown::Unknown, Way::Back) => self.back.take(alloc, place, side, &mut self.held),
         }
     }
 
-    /// Whether it is shown, by what its ways begin with.
-    fn judged(&self) -> Shown {
-        match (self.forth.opening(), self.back.opening()) {
-            (Opening::Hello, _) | (_, Opening::Hello) => Shown::Yes,
-            (Opening::Other, Opening::Other) => Shown::No,
-            _ if self.held.len() > MOST_HELD => Shown::No,
-            _ => Shown::Unknown,
+    /// Takes in the bytes that a packet of a way made ready.
+    fn bring(&mut self, place: Place, side: &Side) -> Result<(), NoMemory> {
+        match place.way {
+            Way::Forth => self.forth.bring(place.moment, side),
+            Way::Back => self.back.bring(place.moment, side),
         }
     }
 
@@ -93,7 +116,7 @@ impl Talk {
         connection: &Connection,
         text: &mut String,
     ) -> Result<(), NoMemory> {
-        self.shown = self.judged();
+        self.shown = judged(self.forth.opening(), self.back.opening(), self.came);
         match self.shown {
             Shown::Unknown => {}
             Shown::Yes => {

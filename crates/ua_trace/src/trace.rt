@@ -17,7 +17,7 @@ use ua_value::NoMemory;
 /// It keeps what is not in order yet, the frame that is cut and the parts of a message that is not whole of each way of
 /// a connection that is shown, and of the file at most one block beside the last piece. Of a way that has ended, and of a
 /// connection that is not shown, nothing is kept but that it is one. While the first bytes of a connection do not tell
-/// whether it is shown, at most 65536 bytes of its lines are held.
+/// whether it is shown, its lines are held: those of at most 1048576 bytes of both ways, which are at most 16 MiB in any form.
 #[derive(Drop)]
 pub struct Trace {
     alloc: Global,
