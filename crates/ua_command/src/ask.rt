@@ -10,7 +10,7 @@ pub mod reaching;
 use crate::ask::inquiry::{Inquiry, request_of, text_of};
 use crate::ask::lines::{Outcome, lines_of};
 use crate::ask::reaching::{ask_at, ask_caller};
-use crate::run::told;
+use crate::run::told_and_noted;
 use crate::stop::{Stop, print};
 use crate::why::Why;
 use std::alloc::Global;
@@ -246,19 +246,20 @@ fn tell_outcome<O: Write, E: Write>(
     }
 }
 
-/// Tells what came of the question, and gives the exit status, also where that can't be printed.
+/// Tells what came of the question, and gives the exit status, also where that can't be printed, as `why` says then.
 pub fn status_of<O: Write, E: Write>(
     alloc: Global,
     outcome: &Outcome,
     form: Form,
     output: &mut O,
     errors: &mut E,
+    why: &mut Why,
 ) -> u8
     ensures { IsAskStatus result }
 {
     match tell_outcome(alloc, outcome, form, output, errors) {
         Ok(status) => status,
-        Err(stop) => told(&stop, errors),
+        Err(stop) => told_and_noted(&stop, errors, why),
     }
 }
 
@@ -268,8 +269,8 @@ pub fn status_of<O: Write, E: Write>(
 ///
 /// The result is the exit status: 0 for an answer; 1 for a fault, an abort, an error of the server or a frame that the
 /// client refuses, which is printed, and where the server takes no such request, which is told on `errors`; 3 where the
-/// link fails or ends before, or 4096 reads bring no answer; 4 for want of memory. Fewer than 2^64 - 1 calls of the
-/// link failed before.
+/// link fails or ends before, 4096 reads bring no answer, or the answer can't be printed, as `why` says then; 4 for want of
+/// memory. Fewer than 2^64 - 1 calls of the link failed before.
 pub fn ask_over<L: Link, C: Clock, O: Write, E: Write>(
     alloc: Global,
     link: &mut L,
@@ -278,13 +279,14 @@ pub fn ask_over<L: Link, C: Clock, O: Write, E: Write>(
     url: Option<&str>,
     output: &mut O,
     errors: &mut E,
+    why: &mut Why,
 ) -> u8
     requires url { IfSome url (λ url. length url.now ≤ 4095) }
     requires countable { L.fault_count link.old < 2 ^ 64 - 1 }
     ensures { IsAskStatus result }
 {
     let inquiry = Inquiry::plain(question);
-    ask_as(alloc, link, clock, &inquiry, url, output, errors)
+    ask_as(alloc, link, clock, &inquiry, url, output, errors, why)
 }
 
 /// Asks a server over a link in the same way, with the locales, the filter and the form of an inquiry.
@@ -296,6 +298,7 @@ pub fn ask_as<L: Link, C: Clock, O: Write, E: Write>(
     url: Option<&str>,
     output: &mut O,
     errors: &mut E,
+    why: &mut Why,
 ) -> u8
     requires url { IfSome url (λ url. length url.now ≤ 4095) }
     requires countable { L.fault_count link.old < 2 ^ 64 - 1 }
@@ -303,11 +306,11 @@ pub fn ask_as<L: Link, C: Clock, O: Write, E: Write>(
 {
     match talk_anew(alloc, link, clock, inquiry, url) {
         Ok(outcome) => {
-            let status = status_of(alloc, &outcome, inquiry.form, output, errors);
+            let status = status_of(alloc, &outcome, inquiry.form, output, errors, why);
             let_go(outcome);
             status
         }
-        Err(stop) => told(&stop, errors),
+        Err(stop) => told_and_noted(&stop, errors, why),
     }
 }
 
@@ -324,7 +327,7 @@ pub fn why_of(outcome: &Outcome) -> Why {
 /// name of a host; once they are over, the link fails.
 ///
 /// `Link` says that nobody listens at the address, or that nothing can, and `NoMemory` that a growth was refused; nothing
-/// is printed then. What is known of a link that failed stands in `why`.
+/// is printed then. What is known of a link that failed, or that the answer can't be printed, stands in `why`.
 pub fn ask<R, O, E>(
     rt: &R,
     inquiry: &Inquiry,
