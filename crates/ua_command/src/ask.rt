@@ -1,7 +1,10 @@
 //! The command `ask`: asks a server over TCP for the servers that it knows, or for its endpoints.
 
-ghost use Rattle.std.specs.Prelude.{◌≡◌, ◌⊎◌, ◌<◌, ◌≤◌, ◌-◌, ◌^◌, length, None, IfOk, IfErr, IfSome};
+ghost use Rattle.std.specs.Prelude.{◌≡◌, ◌⊎◌, ◌<◌, ◌≤◌, ◌-◌, ◌^◌, length, None, Err, IfOk, IfErr, IfSome};
 ghost use Rattle.ua_command.specs.Ask.{IsAskStatus, IsReachStop, IsTalkStop};
+ghost use Rattle.ua_command.specs.Stop.{IsFileStop};
+ghost use Rattle.ua_command.specs.Why.{IsKnown};
+ghost use Rattle.ua_command.specs.declared.why.Why.TheVariants.{Output as output_failed};
 
 pub mod inquiry;
 pub mod lines;
@@ -229,7 +232,7 @@ fn tell_outcome<O: Write, E: Write>(
     errors: &mut E,
 ) -> Result<u8, Stop>
     ensures status { IfOk result (λ status. (status ≡ 0) ⊎ (status ≡ 1)) }
-    ensures stop { IfErr result IsTalkStop }
+    ensures stop { IfErr result IsFileStop }
 {
     if let Outcome::NotAsked(fault) = outcome {
         let number = number_of(*fault);
@@ -255,7 +258,8 @@ pub fn status_of<O: Write, E: Write>(
     errors: &mut E,
     why: &mut Why,
 ) -> u8
-    ensures { IsAskStatus result }
+    ensures status { IsAskStatus result }
+    ensures said { result ≡ 3 → why.new ≡ output_failed }
 {
     match tell_outcome(alloc, outcome, form, output, errors) {
         Ok(status) => status,
@@ -345,6 +349,8 @@ where
     requires { IfSome url (λ url. length url.now ≤ 4095) }
     ensures ok { IfOk result IsAskStatus }
     ensures err { IfErr result IsReachStop }
+    ensures known { IfOk result (λ status. status ≡ 3 → IsKnown why.new) }
+    ensures unlinked { result ≡ Err Stop.Link → IsKnown why.new }
     ensures quiet { IfErr result (λ _. O.contents output.new ≡ O.contents output.old) }
     ensures untold { IfErr result (λ _. E.contents errors.new ≡ E.contents errors.old) }
 {

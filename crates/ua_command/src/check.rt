@@ -5,6 +5,7 @@ ghost use Rattle.ua_command.specs.Ask.{IsAskStatus, IsTalkStop};
 ghost use Rattle.ua_command.specs.Check.{AreSame, listed};
 ghost use Rattle.ua_command.specs.Serve.{IsServeStop};
 ghost use Rattle.ua_command.specs.Why.{IsKnown};
+ghost use Rattle.ua_command.specs.declared.why.Why.TheVariants.{Output as output_failed};
 
 use crate::ask::inquiry::{Inquiry, request_of};
 use crate::ask::lines::Outcome;
@@ -141,7 +142,8 @@ fn tell_differences<O: Write, E: Write>(
     errors: &mut E,
     why: &mut Why,
 ) -> u8
-    ensures { IsAskStatus result }
+    ensures status { IsAskStatus result }
+    ensures said { result ≡ 3 → why.new ≡ output_failed }
 {
     let mut text = String::new(alloc);
     let same = add_differences(alloc, settings, question, url, found, &mut text);
@@ -165,7 +167,8 @@ fn tell_beside<O: Write, E: Write>(
     errors: &mut E,
     why: &mut Why,
 ) -> u8
-    ensures { IsAskStatus result }
+    ensures status { IsAskStatus result }
+    ensures said { result ≡ 3 → why.new ≡ output_failed }
 {
     match outcome {
         Outcome::Answered(found) if !outcome.is_fault() => {
@@ -187,7 +190,8 @@ fn tell_came<O: Write, E: Write>(
     why: &mut Why,
 ) -> u8
     requires { IfErr came IsTalkStop }
-    ensures { IsAskStatus result }
+    ensures status { IsAskStatus result }
+    ensures known { (came ≡ Err Stop.Link → IsKnown why.old) → result ≡ 3 → IsKnown why.new }
 {
     match came {
         Ok(outcome) => {
@@ -239,7 +243,8 @@ where
     O: Write,
     E: Write,
     requires { length machine.url.now ≤ 4095 }
-    ensures { IsAskStatus result }
+    ensures status { IsAskStatus result }
+    ensures known { result ≡ 3 → IsKnown why.new }
 {
     let came = asked(rt, machine, question, why);
     tell_came(
@@ -269,7 +274,8 @@ where
     O: Write,
     E: Write,
     requires { length machine.url.now ≤ 4095 }
-    ensures { IsAskStatus result }
+    ensures status { IsAskStatus result }
+    ensures known { result ≡ 3 → IsKnown why.new }
 {
     let first = check_one(rt, settings, machine, Question::Find, output, errors, why);
     if first > 1 {
@@ -315,6 +321,7 @@ where
     requires { length machine.url.now ≤ 4095 }
     ensures ok { IfOk result IsAskStatus }
     ensures err { IfErr result (IsServeStop source.now) }
+    ensures known { IfOk result (λ status. status ≡ 3 → IsKnown why.new) }
     ensures quiet { IfErr result (λ _. O.contents output.new ≡ O.contents output.old) }
     ensures untold { IfErr result (λ _. E.contents errors.new ≡ E.contents errors.old) }
 {

@@ -156,6 +156,7 @@ where
     ensures stop { IfErr result (IsServingStop reverse settings.now) }
     ensures linked { MatchResult stream (λ _. result ≡ Err Stop.Link → ⊥) (λ _. result ≡ Err Stop.Link) }
     ensures why { MatchResult stream (λ _. why.new ≡ why.old) (λ reason. why.new ≡ reason) }
+    ensures known { IfErr stream IsKnown → result ≡ Err Stop.Link → IsKnown why.new }
 {
     match stream {
         Ok(stream) => {
@@ -275,8 +276,8 @@ where
 /// next connection is served.
 ///
 /// The result is the exit status: 3 where a connection can't be accepted or a line can't be printed, which ends the
-/// call and is told on `errors`, with the reason in `why`; else 4 where a connection ended for want of memory, else 3 where the link of one
-/// failed, else 0.
+/// call and is told on `errors`, with the reason in `why`; else 4 where a connection ended for want of memory, else 3
+/// where the link of one failed, else 0.
 pub fn serve_on<R, L, O, E>(
     rt: &R,
     listener: &L,
@@ -367,6 +368,7 @@ where
     O: Write,
     E: Write,
     ensures bound { MatchResult listener (λ _. IsOk result) (λ _. result ≡ Err Stop.Link) }
+    ensures known { IfErr listener (λ _. IsKnown why.old) → result ≡ Err Stop.Link → IsKnown why.new }
     ensures ok { IfOk result IsServeStatus }
     ensures err { IfErr result (λ stop. stop ≡ Stop.Link) }
     ensures quiet { IfErr result (λ _. O.contents output.new ≡ O.contents output.old) }
@@ -380,7 +382,9 @@ where
 }
 
 /// Says in `why` for which reason nothing listens, where nothing does.
-fn note<L>(listener: &io::Result<L>, why: &mut Why) {
+fn note<L>(listener: &io::Result<L>, why: &mut Why)
+    ensures { IfErr listener.now (λ _. IsKnown why.new) }
+{
     if let Err(error) = listener {
         *why = Why::NotListening(Reason::System(*error));
     }
@@ -404,6 +408,7 @@ where
     E: Write,
     ensures ok { IfOk result (IsServedStatus reverse settings.now) }
     ensures err { IfErr result (λ stop. stop ≡ Stop.Link) }
+    ensures known { result ≡ Err Stop.Link → IsKnown why.new }
     ensures quiet { IfErr result (λ _. O.contents output.new ≡ O.contents output.old) }
     ensures untold { IfErr result (λ _. E.contents errors.new ≡ E.contents errors.old) }
 {
@@ -437,6 +442,7 @@ where
     E: Write,
     ensures ok { IfOk result (Serves reverse source.now) }
     ensures err { IfErr result (IsServeStop source.now) }
+    ensures known { result ≡ Err Stop.Link → IsKnown why.new }
     ensures quiet { IfErr result (λ _. O.contents output.new ≡ O.contents output.old) }
     ensures untold { IfErr result (λ _. E.contents errors.new ≡ E.contents errors.old) }
 {

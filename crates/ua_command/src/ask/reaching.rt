@@ -99,7 +99,8 @@ where
     O: Write,
     E: Write,
     requires { IfSome url (λ url. length url.now ≤ 4095) }
-    ensures { IsAskStatus result }
+    ensures status { IsAskStatus result }
+    ensures known { result ≡ 3 → IsKnown why.new }
 {
     match talk_through(rt, stream, timer, seconds, inquiry, url, why) {
         Ok(outcome) => {
@@ -133,6 +134,8 @@ where
     ensures reached { MatchResult stream (λ _. IsOk result) (λ reason. result ≡ Err (stop_of_reason reason)) }
     ensures ok { IfOk result IsAskStatus }
     ensures err { IfErr result IsReachStop }
+    ensures known { IfOk result (λ status. status ≡ 3 → IsKnown why.new) }
+    ensures unlinked { result ≡ Err Stop.Link → IsKnown why.new }
     ensures quiet { IfErr result (λ _. O.contents output.new ≡ O.contents output.old) }
     ensures untold { IfErr result (λ _. E.contents errors.new ≡ E.contents errors.old) }
 {
@@ -179,7 +182,8 @@ where
     R: Net + HostClock + AllocGlobal,
     O: Write,
     E: Write,
-    ensures { IsAskStatus result }
+    ensures status { IsAskStatus result }
+    ensures known { result ≡ 3 → IsKnown why.new }
 {
     tell_local(&listener, errors);
     let came = listener.accept(rt, rt.alloc(), &mut deadline);
@@ -213,6 +217,8 @@ where
     ensures bound { MatchResult listener (λ _. IsOk result) (λ reason. result ≡ Err (stop_of_reason reason)) }
     ensures ok { IfOk result IsAskStatus }
     ensures err { IfErr result IsReachStop }
+    ensures known { IfOk result (λ status. status ≡ 3 → IsKnown why.new) }
+    ensures unlinked { result ≡ Err Stop.Link → IsKnown why.new }
     ensures quiet { IfErr result (λ _. O.contents output.new ≡ O.contents output.old) }
     ensures untold { IfErr result (λ _. E.contents errors.new ≡ E.contents errors.old) }
 {

@@ -6,7 +6,7 @@ ghost use Rattle.ua_command.specs.Why.{IsKnown};
 
 use crate::ending::Ending;
 use crate::run::{told, told_and_noted};
-use crate::serve::{print_ended, status_with};
+use crate::serve::{note, print_ended, status_with};
 use crate::settings::settings_in;
 use crate::stop::Stop;
 use crate::why::Why;
@@ -18,7 +18,6 @@ use std::{fmt, io};
 use ua_disco::Settings;
 use ua_link::{Clock, MachineClock, Over, ReadyLink};
 use ua_serve::{Connections, Parted, Sockets, Step, TcpSockets};
-use ua_socket::Reason;
 use ua_value::plumbing::let_go;
 use ua_words::Source;
 
@@ -217,6 +216,7 @@ where
     O: Write,
     E: Write,
     ensures bound { MatchResult sockets (λ _. IsOk result) (λ _. result ≡ Err Stop.Link) }
+    ensures known { IfErr sockets (λ _. IsKnown why.old) → result ≡ Err Stop.Link → IsKnown why.new }
     ensures ok { IfOk result IsServeStatus }
     ensures err { IfErr result (λ stop. stop ≡ Stop.Link) }
     ensures quiet { IfErr result (λ _. O.contents output.new ≡ O.contents output.old) }
@@ -259,14 +259,13 @@ where
     E: Write,
     ensures ok { IfOk result (Serves false source.now) }
     ensures err { IfErr result (IsServeStop source.now) }
+    ensures known { result ≡ Err Stop.Link → IsKnown why.new }
     ensures quiet { IfErr result (λ _. O.contents output.new ≡ O.contents output.old) }
     ensures untold { IfErr result (λ _. E.contents errors.new ≡ E.contents errors.old) }
 {
     let settings = settings_in(rt, source)?;
     let sockets = TcpSockets::bind(rt, rt.alloc(), address, crowd.at_once as usize);
-    if let Err(error) = &sockets {
-        *why = Why::NotListening(Reason::System(*error));
-    }
+    note(&sockets, why);
     let served = serve_at(rt, &settings, sockets, crowd, output, errors, why);
     let_go(settings);
     served
