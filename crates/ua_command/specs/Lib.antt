@@ -2,6 +2,7 @@ pub mod Script
 pub mod Settings
 pub mod Reverse
 pub mod Stop
+pub mod Why
 pub mod Printed
 pub mod End
 pub mod Answer

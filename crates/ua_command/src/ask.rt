@@ -1,7 +1,10 @@
 //! The command `ask`: asks a server over TCP for the servers that it knows, or for its endpoints.
 
-ghost use Rattle.std.specs.Prelude.{◌≡◌, ◌⊎◌, ◌<◌, ◌≤◌, ◌-◌, ◌^◌, length, None, IfOk, IfErr, IfSome};
+ghost use Rattle.std.specs.Prelude.{◌≡◌, ◌⊎◌, ◌<◌, ◌≤◌, ◌-◌, ◌^◌, length, None, Err, IfOk, IfErr, IfSome};
 ghost use Rattle.ua_command.specs.Ask.{IsAskStatus, IsReachStop, IsTalkStop};
+ghost use Rattle.ua_command.specs.Stop.{IsFileStop};
+ghost use Rattle.ua_command.specs.Why.{IsKnown};
+ghost use Rattle.ua_command.specs.declared.why.Why.TheVariants.{Output as output_failed};
 
 pub mod inquiry;
 pub mod lines;
@@ -10,7 +13,7 @@ pub mod reaching;
 use crate::ask::inquiry::{Inquiry, request_of, text_of};
 use crate::ask::lines::{Outcome, lines_of};
 use crate::ask::reaching::{ask_at, ask_caller};
-use crate::run::told;
+use crate::run::told_and_noted;
 use crate::stop::{Stop, print};
 use crate::why::Why;
 use std::alloc::Global;
@@ -229,7 +232,7 @@ fn tell_outcome<O: Write, E: Write>(
     errors: &mut E,
 ) -> Result<u8, Stop>
     ensures status { IfOk result (λ status. (status ≡ 0) ⊎ (status ≡ 1)) }
-    ensures stop { IfErr result IsTalkStop }
+    ensures stop { IfErr result IsFileStop }
 {
     if let Outcome::NotAsked(fault) = outcome {
         let number = number_of(*fault);
@@ -246,19 +249,21 @@ fn tell_outcome<O: Write, E: Write>(
     }
 }
 
-/// Tells what came of the question, and gives the exit status, also where that can't be printed.
+/// Tells what came of the question, and gives the exit status, also where that can't be printed, as `why` says then.
 pub fn status_of<O: Write, E: Write>(
     alloc: Global,
     outcome: &Outcome,
     form: Form,
     output: &mut O,
     errors: &mut E,
+    why: &mut Why,
 ) -> u8
-    ensures { IsAskStatus result }
+    ensures status { IsAskStatus result }
+    ensures said { result ≡ 3 → why.new ≡ output_failed }
 {
     match tell_outcome(alloc, outcome, form, output, errors) {
         Ok(status) => status,
-        Err(stop) => told(&stop, errors),
+        Err(stop) => told_and_noted(&stop, errors, why),
     }
 }
 
@@ -268,8 +273,8 @@ pub fn status_of<O: Write, E: Write>(
 ///
 /// The result is the exit status: 0 for an answer; 1 for a fault, an abort, an error of the server or a frame that the
 /// client refuses, which is printed, and where the server takes no such request, which is told on `errors`; 3 where the
-/// link fails or ends before, or 4096 reads bring no answer; 4 for want of memory. Fewer than 2^64 - 1 calls of the
-/// link failed before.
+/// link fails or ends before, 4096 reads bring no answer, or the answer can't be printed, as `why` says then; 4 for want of
+/// memory. Fewer than 2^64 - 1 calls of the link failed before.
 pub fn ask_over<L: Link, C: Clock, O: Write, E: Write>(
     alloc: Global,
     link: &mut L,
@@ -278,13 +283,14 @@ pub fn ask_over<L: Link, C: Clock, O: Write, E: Write>(
     url: Option<&str>,
     output: &mut O,
     errors: &mut E,
+    why: &mut Why,
 ) -> u8
     requires url { IfSome url (λ url. length url.now ≤ 4095) }
     requires countable { L.fault_count link.old < 2 ^ 64 - 1 }
     ensures { IsAskStatus result }
 {
     let inquiry = Inquiry::plain(question);
-    ask_as(alloc, link, clock, &inquiry, url, output, errors)
+    ask_as(alloc, link, clock, &inquiry, url, output, errors, why)
 }
 
 /// Asks a server over a link in the same way, with the locales, the filter and the form of an inquiry.
@@ -296,6 +302,7 @@ pub fn ask_as<L: Link, C: Clock, O: Write, E: Write>(
     url: Option<&str>,
     output: &mut O,
     errors: &mut E,
+    why: &mut Why,
 ) -> u8
     requires url { IfSome url (λ url. length url.now ≤ 4095) }
     requires countable { L.fault_count link.old < 2 ^ 64 - 1 }
@@ -303,11 +310,11 @@ pub fn ask_as<L: Link, C: Clock, O: Write, E: Write>(
 {
     match talk_anew(alloc, link, clock, inquiry, url) {
         Ok(outcome) => {
-            let status = status_of(alloc, &outcome, inquiry.form, output, errors);
+            let status = status_of(alloc, &outcome, inquiry.form, output, errors, why);
             let_go(outcome);
             status
         }
-        Err(stop) => told(&stop, errors),
+        Err(stop) => told_and_noted(&stop, errors, why),
     }
 }
 
@@ -324,7 +331,7 @@ pub fn why_of(outcome: &Outcome) -> Why {
 /// name of a host; once they are over, the link fails.
 ///
 /// `Link` says that nobody listens at the address, or that nothing can, and `NoMemory` that a growth was refused; nothing
-/// is printed then. What is known of a link that failed stands in `why`.
+/// is printed then. What is known of a link that failed, or that the answer can't be printed, stands in `why`.
 pub fn ask<R, O, E>(
     rt: &R,
     inquiry: &Inquiry,
@@ -342,6 +349,8 @@ where
     requires { IfSome url (λ url. length url.now ≤ 4095) }
     ensures ok { IfOk result IsAskStatus }
     ensures err { IfErr result IsReachStop }
+    ensures known { IfOk result (λ status. status ≡ 3 → IsKnown why.new) }
+    ensures unlinked { result ≡ Err Stop.Link → IsKnown why.new }
     ensures quiet { IfErr result (λ _. O.contents output.new ≡ O.contents output.old) }
     ensures untold { IfErr result (λ _. E.contents errors.new ≡ E.contents errors.old) }
 {

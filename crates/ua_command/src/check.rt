@@ -1,15 +1,17 @@
 //! The command `check`: asks a server for all that it offers, and lays it beside settings.
 
-ghost use Rattle.std.specs.Prelude.{◌≡◌, ◌<◌, ◌≤◌, ◌-◌, ◌^◌, ◌↔◌, length, IfOk, IfErr, IsTrue};
+ghost use Rattle.std.specs.Prelude.{◌≡◌, ◌<◌, ◌≤◌, ◌-◌, ◌^◌, ◌↔◌, length, Err, IfOk, IfErr, IsTrue};
 ghost use Rattle.ua_command.specs.Ask.{IsAskStatus, IsTalkStop};
 ghost use Rattle.ua_command.specs.Check.{AreSame, listed};
 ghost use Rattle.ua_command.specs.Serve.{IsServeStop};
+ghost use Rattle.ua_command.specs.Why.{IsKnown};
+ghost use Rattle.ua_command.specs.declared.why.Why.TheVariants.{Output as output_failed};
 
 use crate::ask::inquiry::{Inquiry, request_of};
 use crate::ask::lines::Outcome;
 use crate::ask::reaching::{stop_of, talk_through};
 use crate::ask::{status_of, talk_anew};
-use crate::run::told;
+use crate::run::{told, told_and_noted};
 use crate::settings::settings_in;
 use crate::stop::{Stop, print};
 use crate::why::Why;
@@ -43,7 +45,8 @@ fn asked<R>(rt: &R, machine: Machine, question: Question, why: &mut Why) -> Resu
 where
     R: Net + HostClock + AllocGlobal,
     requires { length machine.url.now ≤ 4095 }
-    ensures { IfErr result IsTalkStop }
+    ensures stop { IfErr result IsTalkStop }
+    ensures known { result ≡ Err Stop.Link → IsKnown why.new }
 {
     let seconds = machine.seconds;
     let mut deadline = Deadline::new(rt, Duration::from_secs(u64::from(seconds)));
@@ -137,8 +140,10 @@ fn tell_differences<O: Write, E: Write>(
     found: &Response,
     output: &mut O,
     errors: &mut E,
+    why: &mut Why,
 ) -> u8
-    ensures { IsAskStatus result }
+    ensures status { IsAskStatus result }
+    ensures said { result ≡ 3 → why.new ≡ output_failed }
 {
     let mut text = String::new(alloc);
     let same = add_differences(alloc, settings, question, url, found, &mut text);
@@ -147,7 +152,7 @@ fn tell_differences<O: Write, E: Write>(
     };
     match print(output, text.as_str()) {
         Ok(()) => u8::from(!same),
-        Err(stop) => told(&stop, errors),
+        Err(stop) => told_and_noted(&stop, errors, why),
     }
 }
 
@@ -160,14 +165,16 @@ fn tell_beside<O: Write, E: Write>(
     outcome: &Outcome,
     output: &mut O,
     errors: &mut E,
+    why: &mut Why,
 ) -> u8
-    ensures { IsAskStatus result }
+    ensures status { IsAskStatus result }
+    ensures said { result ≡ 3 → why.new ≡ output_failed }
 {
     match outcome {
         Outcome::Answered(found) if !outcome.is_fault() => {
-            tell_differences(alloc, settings, question, url, found, output, errors)
+            tell_differences(alloc, settings, question, url, found, output, errors, why)
         }
-        _ => status_of(alloc, outcome, Form::Lines, output, errors),
+        _ => status_of(alloc, outcome, Form::Lines, output, errors, why),
     }
 }
 
@@ -180,23 +187,27 @@ fn tell_came<O: Write, E: Write>(
     came: Result<Outcome, Stop>,
     output: &mut O,
     errors: &mut E,
+    why: &mut Why,
 ) -> u8
     requires { IfErr came IsTalkStop }
-    ensures { IsAskStatus result }
+    ensures status { IsAskStatus result }
+    ensures known { (came ≡ Err Stop.Link → IsKnown why.old) → result ≡ 3 → IsKnown why.new }
 {
     match came {
         Ok(outcome) => {
-            let status = tell_beside(alloc, settings, question, url, &outcome, output, errors);
+            let status = tell_beside(
+                alloc, settings, question, url, &outcome, output, errors, why,
+            );
             let_go(outcome);
             status
         }
-        Err(stop) => told(&stop, errors),
+        Err(stop) => told_and_noted(&stop, errors, why),
     }
 }
 
 /// Asks one question over a link, which the client calls by a url of at most 4095 bytes, and prints a line for each
-/// difference of the answer from that of a server by the settings. The result is the exit status, as that of [`check`].
-/// Fewer than 2^64 - 1 calls of the link failed before.
+/// difference of the answer from that of a server by the settings. The result is the exit status, as that of [`check`];
+/// where the lines can't be printed, `why` says so. Fewer than 2^64 - 1 calls of the link failed before.
 pub fn check_over<L: Link, C: Clock, O: Write, E: Write>(
     alloc: Global,
     settings: &Settings,
@@ -206,6 +217,7 @@ pub fn check_over<L: Link, C: Clock, O: Write, E: Write>(
     url: &str,
     output: &mut O,
     errors: &mut E,
+    why: &mut Why,
 ) -> u8
     requires url { length url.now ≤ 4095 }
     requires countable { L.fault_count link.old < 2 ^ 64 - 1 }
@@ -213,7 +225,7 @@ pub fn check_over<L: Link, C: Clock, O: Write, E: Write>(
 {
     let inquiry = Inquiry::plain(question);
     let came = talk_anew(alloc, link, clock, &inquiry, Some(url));
-    tell_came(alloc, settings, question, url, came, output, errors)
+    tell_came(alloc, settings, question, url, came, output, errors, why)
 }
 
 /// Asks one question, and lays the answer beside that of the settings.
@@ -231,7 +243,8 @@ where
     O: Write,
     E: Write,
     requires { length machine.url.now ≤ 4095 }
-    ensures { IsAskStatus result }
+    ensures status { IsAskStatus result }
+    ensures known { result ≡ 3 → IsKnown why.new }
 {
     let came = asked(rt, machine, question, why);
     tell_came(
@@ -242,10 +255,12 @@ where
         came,
         output,
         errors,
+        why,
     )
 }
 
 /// Asks both questions, and gives the exit status: that of the first where it came to nothing, else the worse of both.
+/// `why` goes with that status.
 fn check_both<R, O, E>(
     rt: &R,
     settings: &Settings,
@@ -259,12 +274,14 @@ where
     O: Write,
     E: Write,
     requires { length machine.url.now ≤ 4095 }
-    ensures { IsAskStatus result }
+    ensures status { IsAskStatus result }
+    ensures known { result ≡ 3 → IsKnown why.new }
 {
     let first = check_one(rt, settings, machine, Question::Find, output, errors, why);
     if first > 1 {
         return first;
     }
+    let known = *why;
     let second = check_one(
         rt,
         settings,
@@ -274,7 +291,11 @@ where
         errors,
         why,
     );
-    if second == 0 { first } else { second }
+    if second > 0 {
+        return second;
+    }
+    *why = known;
+    first
 }
 
 /// Asks the server at an address, which the client calls by a url of at most 4095 bytes, for the servers that it knows
@@ -283,8 +304,8 @@ where
 ///
 /// The exit status is 0 where there is no difference, and 1 where there is one, or where something came in the place of
 /// an answer, which is printed as by `ask`; 3 where there is no connection, the link fails or ends, or the lines can't be
-/// printed; 4 for want of memory. Behind a question that came to nothing the other one is not asked. The settings are
-/// read first, and nothing is asked or printed where they stop the command.
+/// printed; 4 for want of memory. Behind a question that came to nothing the other one is not asked. What is known of that
+/// stands in `why`. The settings are read first, and nothing is asked or printed where they stop the command.
 pub fn check<R, O, E>(
     rt: &R,
     source: &Source,
@@ -300,6 +321,7 @@ where
     requires { length machine.url.now ≤ 4095 }
     ensures ok { IfOk result IsAskStatus }
     ensures err { IfErr result (IsServeStop source.now) }
+    ensures known { IfOk result (λ status. status ≡ 3 → IsKnown why.new) }
     ensures quiet { IfErr result (λ _. O.contents output.new ≡ O.contents output.old) }
     ensures untold { IfErr result (λ _. E.contents errors.new ≡ E.contents errors.old) }
 {

@@ -4,6 +4,8 @@ ghost use Rattle.std.specs.Prelude.{◌≡◌, map, IfOk, IfErr, IfSome, OnOk};
 ghost use Rattle.std.specs.Io.KnownBytes.{Appends};
 ghost use Rattle.ua_command.specs.Run.{Streams, IsDone, IsStop, LeavesInput, Runs};
 ghost use Rattle.ua_command.specs.Stop.{status_of, stop_text, IsQuiet};
+ghost use Rattle.ua_command.specs.Why.{noted};
+ghost use Rattle.ua_command.specs.declared.why.Why.TheVariants.{File as file_failed, Output as output_failed};
 
 use crate::answer::answer;
 use crate::ask::ask;
@@ -69,10 +71,24 @@ where
 }
 
 /// Says in `why` that a file stopped the command, where one did.
-pub fn note(stop: &Stop, why: &mut Why) {
+pub fn note(stop: &Stop, why: &mut Why)
+    ensures { why.new ≡ noted file_failed stop.now why.old }
+{
     if let Stop::File = stop {
         *why = Why::File;
     }
+}
+
+/// Tells what stopped a command that had read all, and gives the exit status, as `told` does. Where it was a write to
+/// standard output, `why` says so; else that stays.
+pub fn told_and_noted<E: Write>(stop: &Stop, errors: &mut E, why: &mut Why) -> u8
+    ensures status { result ≡ status_of stop.now }
+    ensures noted { why.new ≡ noted output_failed stop.now why.old }
+{
+    if let Stop::File = stop {
+        *why = Why::Output;
+    }
+    told(stop, errors)
 }
 
 /// Tells what stopped the command, and gives the exit status; a failed write is passed over.

@@ -2,11 +2,12 @@
 
 ghost use Rattle.std.specs.Prelude.{◌≡◌, ◌<◌, true, Err, IsOk, IfOk, IfErr, MatchResult};
 ghost use Rattle.ua_command.specs.Serve.{IsServeStatus, IsServedStatus, IsServeStop, IsServingStop, Serves};
+ghost use Rattle.ua_command.specs.Why.{IsKnown};
 
 pub mod many;
 
 use crate::ending::Ending;
-use crate::run::told;
+use crate::run::told_and_noted;
 use crate::settings::settings_in;
 use crate::stop::{Stop, print};
 use crate::why::Why;
@@ -134,15 +135,16 @@ pub fn status_with(status: u8, end: End) -> u8
 }
 
 /// Serves the connection over a stream, prints its line, and gives the exit status with it. Where there is no stream, and
-/// nowhere else, the stop is a link.
+/// nowhere else, the stop is a link, and the reason stands in `why`.
 fn serve_next<R, S, O>(
     rt: &R,
-    stream: io::Result<S>,
+    stream: Result<S, Why>,
     settings: &Settings,
     reverse: bool,
     id: u32,
     status: u8,
     output: &mut O,
+    why: &mut Why,
 ) -> Result<u8, Stop>
 where
     R: Clock + AllocGlobal,
@@ -153,6 +155,8 @@ where
     ensures status { IfOk result IsServeStatus }
     ensures stop { IfErr result (IsServingStop reverse settings.now) }
     ensures linked { MatchResult stream (λ _. result ≡ Err Stop.Link → ⊥) (λ _. result ≡ Err Stop.Link) }
+    ensures why { MatchResult stream (λ _. why.new ≡ why.old) (λ reason. why.new ≡ reason) }
+    ensures known { IfErr stream IsKnown → result ≡ Err Stop.Link → IsKnown why.new }
 {
     match stream {
         Ok(stream) => {
@@ -160,7 +164,10 @@ where
             print_line(output, served)?;
             Ok(status_with(status, served.end))
         }
-        Err(_) => Err(Stop::Link),
+        Err(reason) => {
+            *why = reason;
+            Err(Stop::Link)
+        }
     }
 }
 
@@ -168,8 +175,9 @@ where
 trait Streams {
     type Stream: Read + Write + Drop;
 
-    /// The stream of the next connection.
-    fn next(&self) -> io::Result<Self::Stream>;
+    /// The stream of the next connection, or why there is none.
+    fn next(&self) -> Result<Self::Stream, Why>
+        ensures { IfErr result IsKnown };
 }
 
 /// Those that a listener accepts.
@@ -185,9 +193,11 @@ where
 {
     type Stream = L::Stream;
 
-    fn next(&self) -> io::Result<L::Stream> {
-        let (stream, _) = self.listener.accept()?;
-        Ok(stream)
+    fn next(&self) -> Result<L::Stream, Why> {
+        match self.listener.accept() {
+            Ok((stream, _)) => Ok(stream),
+            Err(error) => Err(Why::NotAccepted(Reason::System(error))),
+        }
     }
 }
 
@@ -201,12 +211,16 @@ struct Made<'a, R> {
 impl<'a, R: Net> Streams for Made<'a, R> {
     type Stream = R::Stream;
 
-    fn next(&self) -> io::Result<R::Stream> {
-        TcpStream::connect(self.rt, self.address)
+    fn next(&self) -> Result<R::Stream, Why> {
+        match TcpStream::connect(self.rt, self.address) {
+            Ok(stream) => Ok(stream),
+            Err(error) => Err(Why::NotMade(Reason::System(error))),
+        }
     }
 }
 
-/// Serves so many connections, and gives the exit status of their ends; `reverse` says that this end opens them.
+/// Serves so many connections, and gives the exit status of their ends; `reverse` says that this end opens them. Where the
+/// stop is a link, the reason stands in `why`.
 fn serve_all<R, T, O>(
     rt: &R,
     streams: &T,
@@ -214,6 +228,7 @@ fn serve_all<R, T, O>(
     reverse: bool,
     connections: u16,
     output: &mut O,
+    why: &mut Why,
 ) -> Result<u8, Stop>
 where
     R: Clock + AllocGlobal,
@@ -221,16 +236,18 @@ where
     O: Write,
     ensures status { IfOk result IsServeStatus }
     ensures stop { IfErr result (IsServingStop reverse settings.now) }
+    ensures known { result ≡ Err Stop.Link → IsKnown why.new }
 {
     let mut status = 0;
     'connections: for before in 0..connections {
         let id = u32::from(before) + 1;
-        status = serve_next(rt, streams.next(), settings, reverse, id, status, output)?;
+        let stream = streams.next();
+        status = serve_next(rt, stream, settings, reverse, id, status, output, why)?;
     }
     Ok(status)
 }
 
-/// The same, and tells on `errors` what ended it before.
+/// The same, and tells on `errors` what ended it before, and says in `why` what is known of that.
 fn serve_or_tell<R, T, O, E>(
     rt: &R,
     streams: &T,
@@ -239,6 +256,7 @@ fn serve_or_tell<R, T, O, E>(
     connections: u16,
     output: &mut O,
     errors: &mut E,
+    why: &mut Why,
 ) -> u8
 where
     R: Clock + AllocGlobal,
@@ -247,9 +265,9 @@ where
     E: Write,
     ensures { IsServedStatus reverse settings.now result }
 {
-    match serve_all(rt, streams, settings, reverse, connections, output) {
+    match serve_all(rt, streams, settings, reverse, connections, output, why) {
         Ok(status) => status,
-        Err(stop) => told(&stop, errors),
+        Err(stop) => told_and_noted(&stop, errors, why),
     }
 }
 
@@ -258,8 +276,8 @@ where
 /// next connection is served.
 ///
 /// The result is the exit status: 3 where a connection can't be accepted or a line can't be printed, which ends the
-/// call and is told on `errors`; else 4 where a connection ended for want of memory, else 3 where the link of one
-/// failed, else 0.
+/// call and is told on `errors`, with the reason in `why`; else 4 where a connection ended for want of memory, else 3
+/// where the link of one failed, else 0.
 pub fn serve_on<R, L, O, E>(
     rt: &R,
     listener: &L,
@@ -267,6 +285,7 @@ pub fn serve_on<R, L, O, E>(
     connections: u16,
     output: &mut O,
     errors: &mut E,
+    why: &mut Why,
 ) -> u8
 where
     R: Clock + AllocGlobal,
@@ -277,7 +296,16 @@ where
     ensures { IsServeStatus result }
 {
     let streams = Accepted { listener };
-    serve_or_tell(rt, &streams, settings, false, connections, output, errors)
+    serve_or_tell(
+        rt,
+        &streams,
+        settings,
+        false,
+        connections,
+        output,
+        errors,
+        why,
+    )
 }
 
 /// Serves so many connections that it makes to an address, one after the other, by these settings: each begins with the
@@ -285,8 +313,8 @@ where
 /// memory has the line `connection ID memory read 0 written 0`. OPC 10000-6, 7.1.2.6.
 ///
 /// The result is the exit status: 3 where a connection can't be made or a line can't be printed, and 1 where the settings
-/// do not let a server open a connection, which is found once the first is made; both end the call and are told on
-/// `errors`. Else it is that of `serve_on`.
+/// do not let a server open a connection, which is found once the first is made; these end the call and are told on
+/// `errors`, the first two with the reason in `why`. Else it is that of `serve_on`.
 pub fn serve_to<R, O, E>(
     rt: &R,
     address: &str,
@@ -294,6 +322,7 @@ pub fn serve_to<R, O, E>(
     connections: u16,
     output: &mut O,
     errors: &mut E,
+    why: &mut Why,
 ) -> u8
 where
     R: Net + Clock + AllocGlobal,
@@ -302,7 +331,16 @@ where
     ensures { IsServedStatus true settings.now result }
 {
     let streams = Made { rt, address };
-    serve_or_tell(rt, &streams, settings, true, connections, output, errors)
+    serve_or_tell(
+        rt,
+        &streams,
+        settings,
+        true,
+        connections,
+        output,
+        errors,
+        why,
+    )
 }
 
 /// Tells at which address a listener listens; a failed write is passed over.
@@ -321,6 +359,7 @@ fn serve_at<R, L, O, E>(
     connections: u16,
     output: &mut O,
     errors: &mut E,
+    why: &mut Why,
 ) -> Result<u8, Stop>
 where
     R: Clock + AllocGlobal,
@@ -329,6 +368,7 @@ where
     O: Write,
     E: Write,
     ensures bound { MatchResult listener (λ _. IsOk result) (λ _. result ≡ Err Stop.Link) }
+    ensures known { IfErr listener (λ _. IsKnown why.old) → result ≡ Err Stop.Link → IsKnown why.new }
     ensures ok { IfOk result IsServeStatus }
     ensures err { IfErr result (λ stop. stop ≡ Stop.Link) }
     ensures quiet { IfErr result (λ _. O.contents output.new ≡ O.contents output.old) }
@@ -338,11 +378,13 @@ where
         return Err(Stop::Link);
     };
     tell_address(&listener, errors);
-    Ok(serve_on(rt, &listener, settings, connections, output, errors))
+    Ok(serve_on(rt, &listener, settings, connections, output, errors, why))
 }
 
 /// Says in `why` for which reason nothing listens, where nothing does.
-fn note<L>(listener: &io::Result<L>, why: &mut Why) {
+fn note<L>(listener: &io::Result<L>, why: &mut Why)
+    ensures { IfErr listener.now (λ _. IsKnown why.new) }
+{
     if let Err(error) = listener {
         *why = Why::NotListening(Reason::System(*error));
     }
@@ -366,23 +408,24 @@ where
     E: Write,
     ensures ok { IfOk result (IsServedStatus reverse settings.now) }
     ensures err { IfErr result (λ stop. stop ≡ Stop.Link) }
+    ensures known { result ≡ Err Stop.Link → IsKnown why.new }
     ensures quiet { IfErr result (λ _. O.contents output.new ≡ O.contents output.old) }
     ensures untold { IfErr result (λ _. E.contents errors.new ≡ E.contents errors.old) }
 {
     if reverse {
-        let status = serve_to(rt, address, settings, connections, output, errors);
+        let status = serve_to(rt, address, settings, connections, output, errors, why);
         return Ok(status);
     }
     let listener = TcpListener::bind(rt, address);
     note(&listener, why);
-    serve_at(rt, settings, listener, connections, output, errors)
+    serve_at(rt, settings, listener, connections, output, errors, why)
 }
 
 /// Serves so many connections by the settings of the source, and gives the exit status. It listens at the address, and
 /// tells on `errors` which one it is, or where `reverse` says so makes the connections to the address.
 ///
-/// The settings are read first, and `Link` says that nothing can listen at the address, and `why` for which reason.
-/// Nothing is printed before.
+/// The settings are read first, and `Link` says that nothing can listen at the address. Nothing is printed before. `why`
+/// has the reason of that, and of what ends the command later.
 pub fn serve<R, O, E>(
     rt: &R,
     source: &Source,
@@ -399,6 +442,7 @@ where
     E: Write,
     ensures ok { IfOk result (Serves reverse source.now) }
     ensures err { IfErr result (IsServeStop source.now) }
+    ensures known { result ≡ Err Stop.Link → IsKnown why.new }
     ensures quiet { IfErr result (λ _. O.contents output.new ≡ O.contents output.old) }
     ensures untold { IfErr result (λ _. E.contents errors.new ≡ E.contents errors.old) }
 {

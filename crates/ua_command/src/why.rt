@@ -14,14 +14,26 @@ pub enum Why {
     Unknown,
     /// A file, standard input or standard output could not be read or written.
     File,
+    /// Standard output could not be written.
+    Output,
     /// There is no connection to the address, in so many seconds.
     NotReached(Reason, u32),
     /// Nothing can listen at the address.
     NotListening(Reason),
     /// No server came to the address, in so many seconds.
     NobodyCame(Reason, u32),
+    /// A server made no connection to the address.
+    NotMade(Reason),
+    /// A connection could not be accepted.
+    NotAccepted(Reason),
+    /// No connection could be accepted, too often in a row.
+    NoneAccepted,
+    /// The system does not say which connections may go on.
+    NotWaited,
     /// The connection failed or ended before the answer.
     Broken(Broken),
+    /// So many bytes came, in as many reads as one question has, and no whole answer.
+    Unanswered(u64),
     /// This status came in the place of an answer.
     Status(StatusCode),
 }
@@ -40,11 +52,25 @@ pub struct Broken {
 /// BadTcpMessageTypeInvalid: the status of bytes that are no frame of OPC UA (OPC 10000-6, 7.1.5).
 const NO_OPC_UA: u32 = 0x807E_0000;
 
+/// Which end is at the address.
+#[derive(Clone, Copy)]
+enum Far {
+    Server,
+    Client,
+}
+
+/// What to try where nobody listens at the address of this end.
+fn advice_to_start(far: Far) -> &'static str {
+    match far {
+        Far::Server => ": nothing listens there; is the server started, and is this its port?",
+        Far::Client => ": nothing listens there; is the client started, and is this its port?",
+    }
+}
+
 /// What to try where the system says this.
-fn advice(error: &io::Error) -> &'static str {
+fn advice(error: &io::Error, far: Far) -> &'static str {
     match error.kind() {
-        ErrorKind::ConnectionRefused =>
-            ": nothing listens there; is the server started, and is this its port?",
+        ErrorKind::ConnectionRefused => advice_to_start(far),
         ErrorKind::TimedOut | ErrorKind::HostUnreachable | ErrorKind::NetworkUnreachable =>
             ": is the machine on, and is there a way to it from here?",
         ErrorKind::AddrInUse => ": another program listens there; end it, or take another port",
@@ -61,6 +87,9 @@ impl fmt::Display for Why {
     fn fmt<W: fmt::Write>(&self, f: &mut fmt::Formatter<W>) -> fmt::Result {
         match self {
             Why::Unknown | Why::File => Ok(()),
+            Why::Output => f.write_str(
+                "standard output could not be written: is its disk full, or did the program end that reads it?",
+            ),
             Why::NotReached(Reason::Late, seconds) => write!(
                 f,
                 "no connection within {seconds} s: is the machine on, and does a firewall let this through?"
@@ -69,9 +98,25 @@ impl fmt::Display for Why {
                 write!(f, "no server connected within {seconds} s")
             }
             Why::NotReached(reason, _) | Why::NotListening(reason) | Why::NobodyCame(reason, _) => {
-                write!(f, "{}", Said(*reason))
+                write!(f, "{}", Said(*reason, Far::Server))
             }
+            Why::NotMade(reason) => write!(f, "{}", Said(*reason, Far::Client)),
+            Why::NotAccepted(reason) => write!(
+                f,
+                "a connection could not be accepted: {}; `ulimit -n` says how many files may be open",
+                Said(*reason, Far::Client)
+            ),
+            Why::NoneAccepted => f.write_str(
+                "no connection could be accepted, again and again: `ulimit -n` says how many files may be open",
+            ),
+            Why::NotWaited => f.write_str(
+                "the system refused to wait for connections: try one after the other, without --at-once and --patience",
+            ),
             Why::Broken(broken) => write!(f, "{broken}"),
+            Why::Unanswered(received) => write!(
+                f,
+                "{received} bytes came and no whole answer, in as many reads as a question has: is it an OPC UA server?"
+            ),
             Why::Status(status) if status.0 == NO_OPC_UA => {
                 write!(
                     f,
@@ -86,13 +131,13 @@ impl fmt::Display for Why {
 
 /// What the system said, and what to try.
 #[derive(Clone, Copy)]
-struct Said(Reason);
+struct Said(Reason, Far);
 
 impl fmt::Display for Said {
     fn fmt<W: fmt::Write>(&self, f: &mut fmt::Formatter<W>) -> fmt::Result {
         match self.0 {
             Reason::Address(error) | Reason::System(error) => {
-                write!(f, "{error}{}", advice(&error))
+                write!(f, "{error}{}", advice(&error, self.1))
             }
             Reason::Late => f.write_str("the time was over"),
             Reason::Stuck => f.write_str("the connection takes no bytes"),
@@ -131,7 +176,11 @@ impl fmt::Display for Broken {
                 f,
                 "{received} bytes came and no whole answer; nothing came for {quiet}"
             ),
-            Some(reason) => write!(f, "{}; {received} bytes had come", Said(reason)),
+            Some(reason) => write!(
+                f,
+                "{}; {received} bytes had come",
+                Said(reason, Far::Server)
+            ),
         }
     }
 }

@@ -2,13 +2,13 @@
 
 ghost use Rattle.std.specs.Prelude.{◌≡◌, ◌<◌, ◌≤◌, ◌-◌, ◌^◌, IfSome, length};
 
-use crate::runs::Page;
+use crate::runs::{Page, is_output};
 use crate::vectors::{
     ABORT_TOO_LARGE, ACKNOWLEDGE, BOTH_FOUND, CLOSE_REQUEST, ENDPOINTS_RESPONSE, FAULT_RESPONSE,
     FIND_REQUEST, FIND_RESPONSE, OPEN_RESPONSE, REVERSE_HELLO,
 };
 use std::alloc::Global;
-use ua_command::{Question, ask_over};
+use ua_command::{Question, Why, ask_over};
 use ua_link::{Clock, Link, LinkFault, MemoryLink};
 
 const URL: &str = "opc.tcp://localhost:4840";
@@ -52,6 +52,22 @@ pub(crate) fn answer_over<L: Link>(
     requires url { IfSome url (λ url. length url.now ≤ 4095) }
     requires countable { L.fault_count link.old < 2 ^ 64 - 1 }
 {
+    let mut why = Why::Unknown;
+    answer_and_why(alloc, link, question, url, room, &mut why)
+}
+
+/// The same, and what is known of why it came to nothing.
+fn answer_and_why<L: Link>(
+    alloc: Global,
+    link: &mut L,
+    question: Question,
+    url: Option<&str>,
+    room: usize,
+    why: &mut Why,
+) -> (u8, Page, Page)
+    requires url { IfSome url (λ url. length url.now ≤ 4095) }
+    requires countable { L.fault_count link.old < 2 ^ 64 - 1 }
+{
     let mut printed = Page::new(room);
     let mut told = Page::new(4096);
     let status = ask_over(
@@ -62,6 +78,7 @@ pub(crate) fn answer_over<L: Link>(
         url,
         &mut printed,
         &mut told,
+        why,
     );
     (status, printed, told)
 }
@@ -233,8 +250,19 @@ fn an_answer_does_not_come(rt: HostRuntime) {
 fn is_unprinted(alloc: Global, room: usize) -> bool {
     let pieces = [ACKNOWLEDGE, OPEN_RESPONSE, FIND_RESPONSE];
     let mut link = MemoryLink::new(alloc, &pieces, 100);
-    let (status, printed, told) = answer_over(alloc, &mut link, Question::Find, Some(URL), room);
-    status == 3 && printed.text().len() == room && told.text() == b"file\n".as_slice()
+    let mut why = Why::Unknown;
+    let (status, printed, told) = answer_and_why(
+        alloc,
+        &mut link,
+        Question::Find,
+        Some(URL),
+        room,
+        &mut why,
+    );
+    status == 3
+        && printed.text().len() == room
+        && told.text() == b"file\n".as_slice()
+        && is_output(&why)
 }
 
 #[test]

@@ -1,6 +1,6 @@
 //! What a server offers, laid beside settings, over links of memory.
 
-use crate::runs::Page;
+use crate::runs::{Page, is_output};
 use crate::vectors::{
     ABORT_TOO_LARGE, ACKNOWLEDGE, BOTH_FOUND, ENDPOINTS_RESPONSE, FAULT_RESPONSE, FIND_RESPONSE,
     OPEN_RESPONSE,
@@ -10,7 +10,7 @@ use std::net::Net;
 use std::process::Abort;
 use std::rt::{Clock as HostClock, Files};
 use ua_command::run::run;
-use ua_command::{Question, check_over};
+use ua_command::{Question, Why, check_over};
 use ua_disco::{DEFAULT, Settings};
 use ua_link::{Clock, MemoryLink};
 use ua_value::plumbing::let_go;
@@ -28,13 +28,14 @@ impl Clock for StillClock {
 }
 
 /// What a server that says these pieces comes to, laid beside these settings: the exit status, what is printed, which
-/// finds so much room, and what is told.
+/// finds so much room, and what is told; `why` says what is known of that.
 fn laid_beside(
     alloc: Global,
     settings: &Settings,
     question: Question,
     pieces: &[&[u8]],
     room: usize,
+    why: &mut Why,
 ) -> (u8, Page, Page) {
     let mut link = MemoryLink::new(alloc, pieces, 100);
     let (mut printed, mut told) = (Page::new(room), Page::new(4096));
@@ -47,6 +48,7 @@ fn laid_beside(
         URL,
         &mut printed,
         &mut told,
+        why,
     );
     (came, printed, told)
 }
@@ -61,7 +63,8 @@ fn differs_from(
     output: &str,
 ) -> bool {
     let pieces = [ACKNOWLEDGE, OPEN_RESPONSE, said];
-    let (came, printed, told) = laid_beside(alloc, settings, question, &pieces, 4096);
+    let mut why = Why::Unknown;
+    let (came, printed, told) = laid_beside(alloc, settings, question, &pieces, 4096, &mut why);
     came == status && printed.text() == output.as_bytes() && told.text().is_empty()
 }
 
@@ -185,14 +188,25 @@ fn what_comes_in_the_place_of_an_answer_is_no_offer(rt: HostRuntime) {
 }
 
 /// Whether a server that says these pieces, laid beside the settings `default`, has this status, and what is printed,
-/// which finds so much room, and told then.
+/// which finds so much room, and told then, and whether that is known to be the output.
 fn stops(alloc: Global, pieces: &[&[u8]], room: usize, status: u8, told: &str) -> bool {
     let Ok(settings) = Settings::from_toml(alloc, DEFAULT.as_bytes()) else {
         return false;
     };
-    let (came, printed, errors) = laid_beside(alloc, &settings, Question::Find, pieces, room);
+    let mut why = Why::Unknown;
+    let (came, printed, errors) = laid_beside(
+        alloc,
+        &settings,
+        Question::Find,
+        pieces,
+        room,
+        &mut why,
+    );
     let_go(settings);
-    came == status && printed.len == room.min(17) && errors.text() == told.as_bytes()
+    came == status
+        && printed.len == room.min(17)
+        && errors.text() == told.as_bytes()
+        && is_output(&why) == (told == "file\n")
 }
 
 #[test]
@@ -212,7 +226,15 @@ fn differs_or_not(alloc: Global) -> bool {
         return true;
     };
     let pieces = [ACKNOWLEDGE, OPEN_RESPONSE, BOTH_FOUND];
-    let (came, printed, told) = laid_beside(alloc, &settings, Question::Find, &pieces, 4096);
+    let mut why = Why::Unknown;
+    let (came, printed, told) = laid_beside(
+        alloc,
+        &settings,
+        Question::Find,
+        &pieces,
+        4096,
+        &mut why,
+    );
     let_go(settings);
     match came {
         1 => {

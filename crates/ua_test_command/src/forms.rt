@@ -9,7 +9,7 @@ use std::net::Net;
 use std::process::Abort;
 use std::rt::{Clock as HostClock, Files};
 use ua_command::run::run;
-use ua_command::{Command, Form, Inquiry, Question, ask_as, command_of};
+use ua_command::{Command, Form, Inquiry, Question, Why, ask_as, command_of};
 use ua_link::{Clock, MemoryLink};
 use ua_value::Array;
 use ua_value::plumbing::let_go;
@@ -46,6 +46,7 @@ fn said_of(alloc: Global, question: Question, form: Form, said: &[u8]) -> (u8, P
         url,
         &mut printed,
         &mut told,
+        &mut Why::Unknown,
     );
     (came, printed, told)
 }
@@ -240,6 +241,7 @@ fn sent_by(alloc: Global, inquiry: &Inquiry, tail: &[u8]) -> bool {
         Some(URL),
         &mut printed,
         &mut told,
+        &mut Why::Unknown,
     );
     status == 3 && link.sent().ends_with(tail)
 }

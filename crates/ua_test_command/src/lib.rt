@@ -43,6 +43,8 @@ mod runs;
 #[cfg(test)]
 mod scripts;
 #[cfg(test)]
+mod second_lines;
+#[cfg(test)]
 mod serving;
 #[cfg(test)]
 mod serving_many;

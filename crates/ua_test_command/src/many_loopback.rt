@@ -5,7 +5,7 @@ use crate::vectors::{ACKNOWLEDGE, CALLS};
 use std::io::{Read, Write};
 use std::net::{Shutdown, TcpStream};
 use std::time::Duration;
-use ua_command::{Crowd, serve_sockets};
+use ua_command::{Crowd, Why, serve_sockets};
 use ua_disco::{DEFAULT, Settings};
 use ua_link::MachineClock;
 use ua_serve::TcpSockets;
@@ -66,6 +66,7 @@ fn are_served(rt: &HostRuntime, sockets: &mut TcpSockets) -> bool {
         crowd,
         &mut printed,
         &mut told,
+        &mut Why::Unknown,
     );
     status == 0 && printed.text() == OVER_LOOPBACK.as_bytes() && told.len == 0
 }

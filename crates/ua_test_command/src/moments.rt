@@ -3,7 +3,7 @@
 use crate::runs::Page;
 use crate::vectors::{ACKNOWLEDGE, FIND_RESPONSE, OPEN_RESPONSE};
 use std::alloc::Global;
-use ua_command::{Question, ask_over};
+use ua_command::{Question, Why, ask_over};
 use ua_link::{Clock, MemoryLink};
 
 /// 2026-01-01 00:00 UTC in ticks of 100 ns since 1601, and the ticks of a second.
@@ -49,6 +49,7 @@ fn says_its_moments(alloc: Global) -> bool {
         Some("opc.tcp://localhost:4840"),
         &mut printed,
         &mut told,
+        &mut Why::Unknown,
     );
     let mut same = status == 0 && link.sent().len() == 338;
     for (at, reading) in MOMENTS {

@@ -3,7 +3,7 @@
 
 use crate::link_words::left_address;
 use crate::reversing::{NO_ENDPOINT, long_settings};
-use crate::runs::Page;
+use crate::runs::{Page, is_output};
 use crate::vectors::CALLS;
 use crate::words::has;
 use std::alloc::Global;
@@ -13,7 +13,7 @@ use std::net::{Net, OpenListener, OpenStream, SocketAddr, TcpListener};
 use std::os::fd::{AsRawFd, RawFd};
 use std::rt::Clock;
 use std::time::Duration;
-use ua_command::serve_to;
+use ua_command::{Why, serve_to};
 use ua_disco::{DEFAULT, Settings, SettingsFault};
 
 /// A stream whose other end makes the calls of a client at once and then is silent, and hears all; or one that fails.
@@ -109,20 +109,22 @@ impl Clock for CallHost {
 }
 
 /// The status of two connections that are made to an address by these settings, what is printed, which finds so much
-/// room, and what is told.
+/// room, and what is told; `why` says what is known of that.
 fn came_of<R: Net + Clock + AllocGlobal>(
     rt: &R,
     address: &str,
     settings: &Settings,
     room: usize,
+    why: &mut Why,
 ) -> (u8, Page, Page) {
     let mut printed = Page::new(room);
     let mut told = Page::new(4096);
-    let status = serve_to(rt, address, settings, 2, &mut printed, &mut told);
+    let status = serve_to(rt, address, settings, 2, &mut printed, &mut told, why);
     (status, printed, told)
 }
 
-/// Whether two connections by the settings of this text have this status, print this into so much room, and tell this.
+/// Whether two connections by the settings of this text have this status, print this into so much room, and tell this, of
+/// which it is known where it is the output, or that no connection could be made.
 fn serves<R: Net + Clock + AllocGlobal>(
     rt: &R,
     address: &str,
@@ -133,9 +135,15 @@ fn serves<R: Net + Clock + AllocGlobal>(
     let Ok(settings) = Settings::from_toml(rt.alloc(), text) else {
         return false;
     };
-    let (status, printed, told) = came_of(rt, address, &settings, room);
+    let mut why = Why::Unknown;
+    let (status, printed, told) = came_of(rt, address, &settings, room, &mut why);
     let (wanted, lines, errors) = expected;
-    status == wanted && printed.text() == lines.as_bytes() && told.text() == errors.as_bytes()
+    let known = is_output(&why) == (errors == "file\n")
+        && matches!(why, Why::NotMade(_)) == (errors == "link\n");
+    known
+        && status == wanted
+        && printed.text() == lines.as_bytes()
+        && told.text() == errors.as_bytes()
 }
 
 const ADDRESS: &str = "192.0.2.1:4840";
@@ -218,7 +226,8 @@ fn serves_or_not(alloc: Global) -> bool {
         Err(fault) => return matches!(fault, SettingsFault::NoMemory),
     };
     let host = (CallHost { fails: false }, alloc);
-    let (status, printed, told) = came_of(&host, ADDRESS, &settings, 4096);
+    let mut why = Why::Unknown;
+    let (status, printed, told) = came_of(&host, ADDRESS, &settings, 4096, &mut why);
     let lines = printed.text();
     let both = has(lines, "connection 1 ") && has(lines, "\nconnection 2 ");
     match status {

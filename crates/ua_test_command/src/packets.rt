@@ -1,13 +1,12 @@
 //! `show` of files of packets.
 
-use crate::runs::Page;
+use crate::runs::{Page, fails_with};
 use std::io;
 use std::io::Read;
 use std::net::Net;
 use std::process::Abort;
 use std::rt::{Clock, Files};
-use ua_command::run::{run, run_and_say};
-use ua_command::{Why, say_why};
+use ua_command::run::run;
 
 /// A file of pcap with one packet: an error frame that an OPC UA client sends to port 4840, seven microseconds behind the
 /// beginning of 1970 (draft-ietf-opsawg-pcap, 4 and 5; LINKTYPE_RAW; RFC 791, RFC 9293).
@@ -122,15 +121,11 @@ fn is_said(rt: &HostRuntime, fails: bool, room: usize) -> bool {
         most: 4096,
         fails,
     };
-    let (mut printed, mut told) = (Page::new(room), Page::new(4096));
-    let mut why = Why::Unknown;
-    let words = ["show", "-"];
-    let came = run_and_say(rt, &words, &mut input, &mut printed, &mut told, &mut why);
-    say_why(rt, &words, &why, &mut told);
-    came == 3 && told.text() == SAID.as_bytes()
+    fails_with(rt, &["show", "-"], &mut input, room, SAID)
 }
 
-const SAID: &str = "file\n  standard input could not be read, or standard output not be written\n";
+const SAID: &str =
+    "file\n  standard input could not be read, or standard output could not be written\n";
 
 #[test]
 fn what_stops_it_in_its_midst_is_said_to_people(rt: HostRuntime) {

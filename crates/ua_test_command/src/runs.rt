@@ -6,7 +6,8 @@ use std::io::{Read, Write};
 use std::net::Net;
 use std::process::Abort;
 use std::rt::{Clock, Files};
-use ua_command::run::run;
+use ua_command::run::{run, run_and_say};
+use ua_command::{Why, say_why};
 
 /// A writer with room for so many bytes, which takes no memory and fails behind them.
 #[derive(Drop)]
@@ -118,6 +119,27 @@ fn fills<R: Files + Net + Clock + AllocGlobal>(rt: &R, words: &[&str], room: usi
     let mut told = Page::new(4096);
     let came = run(rt, words, &mut input, &mut printed, &mut told);
     came == 3 && printed.len == room && told.text() == b"file\n".as_slice()
+}
+
+/// Whether words whose output finds so much room end as a failed file or link does, and tell this, with the second line
+/// for people.
+pub fn fails_with<I: Read>(
+    rt: &HostRuntime,
+    words: &[&str],
+    input: &mut I,
+    room: usize,
+    said: &str,
+) -> bool {
+    let (mut printed, mut told) = (Page::new(room), Page::new(4096));
+    let mut why = Why::Unknown;
+    let came = run_and_say(rt, words, input, &mut printed, &mut told, &mut why);
+    say_why(rt, words, &why, &mut told);
+    came == 3 && told.text() == said.as_bytes()
+}
+
+/// Whether it is known that standard output could not be written.
+pub fn is_output(why: &Why) -> bool {
+    matches!(why, Why::Output)
 }
 
 /// Runs words whose output has not enough room.

@@ -1,6 +1,6 @@
 //! Connections over loopback: each client connects and says all before it is served, so neither waits.
 
-use crate::runs::Page;
+use crate::runs::{Page, is_output};
 use crate::vectors::{ACKNOWLEDGE, CALLS};
 use std::io;
 use std::io::{Read, Write};
@@ -8,7 +8,7 @@ use std::net::{
     Ipv4Addr, OpenListener, Shutdown, SocketAddr, SocketAddrV4, TcpListener, TcpStream,
 };
 use std::time::Duration;
-use ua_command::{serve_on, status_with};
+use ua_command::{Why, serve_on, status_with};
 use ua_conn::End;
 use ua_disco::{DEFAULT, Settings};
 
@@ -71,6 +71,7 @@ fn serves(
         connections,
         &mut printed,
         &mut told,
+        &mut Why::Unknown,
     );
     came == status && printed.text() == lines.as_bytes() && told.text().is_empty()
 }
@@ -169,7 +170,7 @@ impl OpenListener for BrokenListener {
     }
 }
 
-/// Whether two connections of a broken listener have this status, print this into so much room, and tell this.
+/// Whether two connections of a broken listener print this into so much room, and tell this, of which the reason is known.
 fn fails_so(rt: &HostRuntime, accepts: bool, room: usize, lines: &str, errors: &str) -> bool {
     let Ok(settings) = Settings::from_toml(rt.alloc(), DEFAULT.as_bytes()) else {
         return false;
@@ -177,8 +178,19 @@ fn fails_so(rt: &HostRuntime, accepts: bool, room: usize, lines: &str, errors: &
     let listener = BrokenListener { accepts };
     let mut printed = Page::new(room);
     let mut told = Page::new(4096);
-    let status = serve_on(rt, &listener, &settings, 2, &mut printed, &mut told);
-    status == 3 && printed.text() == lines.as_bytes() && told.text() == errors.as_bytes()
+    let mut why = Why::Unknown;
+    let status = serve_on(
+        rt,
+        &listener,
+        &settings,
+        2,
+        &mut printed,
+        &mut told,
+        &mut why,
+    );
+    let known = is_output(&why) == (errors == "file\n")
+        && matches!(why, Why::NotAccepted(_)) == (errors == "link\n");
+    known && status == 3 && printed.text() == lines.as_bytes() && told.text() == errors.as_bytes()
 }
 
 const TWO_FAILED: &str =

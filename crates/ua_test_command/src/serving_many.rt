@@ -2,10 +2,10 @@
 
 ghost use Rattle.std.specs.Prelude.{◌≡◌};
 
-use crate::runs::Page;
+use crate::runs::{Page, is_output};
 use crate::vectors::CALLS;
 use crate::words::has;
-use ua_command::{Crowd, serve_sockets};
+use ua_command::{Crowd, Why, serve_sockets};
 use ua_disco::{DEFAULT, Settings};
 use ua_link::{Clock, LinkFault, ReadyLink};
 use ua_serve::{Accepted, Sockets};
@@ -133,7 +133,8 @@ impl<'a> Sockets for Listener<'a> {
     }
 }
 
-/// Serves so many connections of these sockets, so many at one time, and gives the exit status.
+/// Serves so many connections of these sockets, so many at one time, and gives the exit status, and in `why` what is known
+/// of what ended that.
 fn serve(
     rt: &HostRuntime,
     listener: Listener,
@@ -141,6 +142,7 @@ fn serve(
     at_once: u32,
     printed: &mut Page,
     told: &mut Page,
+    why: &mut Why,
 ) -> Option<u8> {
     let Ok(settings) = Settings::from_toml(rt.alloc(), DEFAULT.as_bytes()) else {
         return None;
@@ -160,6 +162,7 @@ fn serve(
         crowd,
         printed,
         told,
+        why,
     ))
 }
 
@@ -174,7 +177,15 @@ fn serves(
     let (status, lines, errors) = want;
     let mut printed = Page::new(4096);
     let mut told = Page::new(4096);
-    let came = serve(rt, listener, connections, at_once, &mut printed, &mut told);
+    let came = serve(
+        rt,
+        listener,
+        connections,
+        at_once,
+        &mut printed,
+        &mut told,
+        &mut Why::Unknown,
+    );
     came == Some(status) && printed.text() == lines.as_bytes() && told.text() == errors.as_bytes()
 }
 
@@ -249,7 +260,8 @@ fn gives_up(rt: &HostRuntime) -> bool {
     };
     let mut printed = Page::new(4096);
     let mut told = Page::new(4096);
-    let came = serve(rt, listener, 1, 2, &mut printed, &mut told);
+    let mut why = Why::Unknown;
+    let came = serve(rt, listener, 1, 2, &mut printed, &mut told, &mut why);
     came == Some(3)
         && printed.len == 0
         && told.text().starts_with(b"not accepted 1\nnot accepted 2\n")
@@ -257,6 +269,7 @@ fn gives_up(rt: &HostRuntime) -> bool {
             .text()
             .ends_with(b"\nnot accepted 98\nnot accepted 99\nlink\n")
         && told.len == 9 * 15 + 90 * 16 + 5
+        && matches!(why, Why::NoneAccepted)
 }
 
 /// Ninety-nine in a row end nothing.
@@ -269,11 +282,13 @@ fn goes_on_before(rt: &HostRuntime) -> bool {
     };
     let mut printed = Page::new(4096);
     let mut told = Page::new(4096);
-    let came = serve(rt, listener, 1, 2, &mut printed, &mut told);
+    let mut why = Why::Unknown;
+    let came = serve(rt, listener, 1, 2, &mut printed, &mut told, &mut why);
     came == Some(0)
         && printed.text() == ONE.as_bytes()
         && has(told.text(), "\nnot accepted 99\n")
         && told.len == 9 * 15 + 90 * 16
+        && matches!(why, Why::Unknown)
 }
 
 #[test]
@@ -290,7 +305,14 @@ fn breaks(rt: &HostRuntime) -> bool {
         coming: &[],
         breaks: true,
     };
-    serves(rt, listener, 1, 1, (3, "", "link\n"))
+    let mut printed = Page::new(4096);
+    let mut told = Page::new(4096);
+    let mut why = Why::Unknown;
+    let came = serve(rt, listener, 1, 1, &mut printed, &mut told, &mut why);
+    came == Some(3)
+        && printed.len == 0
+        && told.text() == b"link\n".as_slice()
+        && matches!(why, Why::NotWaited)
 }
 
 /// Whether a line for which there is no room ends it.
@@ -298,10 +320,20 @@ fn is_not_printed(rt: &HostRuntime) -> bool {
     let clients = [leaving(&CALLS[..56]), leaving(&CALLS[..56])];
     let mut printed = Page::new(10);
     let mut told = Page::new(4096);
-    let came = serve(rt, coming(&clients), 2, 1, &mut printed, &mut told);
+    let mut why = Why::Unknown;
+    let came = serve(
+        rt,
+        coming(&clients),
+        2,
+        1,
+        &mut printed,
+        &mut told,
+        &mut why,
+    );
     came == Some(3)
         && printed.text() == b"connection".as_slice()
         && told.text() == b"file\n".as_slice()
+        && is_output(&why)
 }
 
 #[test]
@@ -317,7 +349,15 @@ fn two_or_no_memory(rt: &HostRuntime) -> bool {
         "connection 1 input-ended read 188 written 163\nconnection 2 input-ended read 56 written 28\n";
     let mut printed = Page::new(4096);
     let mut told = Page::new(4096);
-    match serve(rt, coming(&clients), 2, 2, &mut printed, &mut told) {
+    match serve(
+        rt,
+        coming(&clients),
+        2,
+        2,
+        &mut printed,
+        &mut told,
+        &mut Why::Unknown,
+    ) {
         None => true,
         Some(0) => printed.text() == lines.as_bytes(),
         Some(4) if printed.len == 0 => told.text() == b"memory\n".as_slice(),

@@ -5,7 +5,7 @@ use crate::vectors::CALLS;
 use std::io;
 use std::io::{Read, Write};
 use std::net::{Ipv4Addr, OpenListener, SocketAddr, SocketAddrV4};
-use ua_command::serve_on;
+use ua_command::{Why, serve_on};
 use ua_disco::{DEFAULT, Settings};
 
 /// The header of the longest message that a server takes by the settings by default. It is whole after 65535 bytes.
@@ -71,7 +71,16 @@ fn is_given_up(rt: &HostRuntime) -> bool {
         return false;
     };
     let (mut printed, mut told) = (Page::new(4096), Page::new(4096));
-    let status = serve_on(rt, &SlowListener, &settings, 1, &mut printed, &mut told);
+    let mut why = Why::Unknown;
+    let status = serve_on(
+        rt,
+        &SlowListener,
+        &settings,
+        1,
+        &mut printed,
+        &mut told,
+        &mut why,
+    );
     status == 0 && printed.text() == SPENT.as_bytes() && told.text().is_empty()
 }
 

@@ -8,7 +8,7 @@ use crate::vectors::{
     FIND_RESPONSE, OPEN_RESPONSE, REVERSE_HELLO,
 };
 use std::alloc::Global;
-use ua_command::{Question, ask_over};
+use ua_command::{Question, Why, ask_over};
 use ua_link::{Clock, MemoryLink};
 
 const URL: &str = "opc.tcp://localhost:4840";
@@ -88,6 +88,7 @@ fn says_so(
         url,
         &mut printed,
         &mut told,
+        &mut Why::Unknown,
     );
     status == 0 && are_calls(link.sent(), moment, of_type, request)
 }

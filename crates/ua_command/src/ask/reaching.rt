@@ -1,12 +1,13 @@
 //! The question over a stream: of a connection that was made, or of one that comes to a listener.
 
-ghost use Rattle.std.specs.Prelude.{◌≡◌, ◌≤◌, length, IsOk, IfOk, IfErr, IfSome, MatchResult};
+ghost use Rattle.std.specs.Prelude.{◌≡◌, ◌≤◌, length, Err, IsOk, IfOk, IfErr, IfSome, MatchResult};
 ghost use Rattle.ua_command.specs.Ask.{IsAskStatus, IsReachStop, IsTalkStop, stop_of_reason};
+ghost use Rattle.ua_command.specs.Why.{IsKnown};
 
 use crate::ask::inquiry::Inquiry;
 use crate::ask::lines::Outcome;
 use crate::ask::{status_of, talk_anew, why_of as why_of_outcome};
-use crate::run::told;
+use crate::run::{told, told_and_noted};
 use crate::stop::Stop;
 use crate::why::{Broken, Why};
 use std::io::Write;
@@ -27,10 +28,12 @@ pub fn stop_of(reason: Reason) -> Stop
     }
 }
 
-/// How the connection failed or ended, if it did, or else what was known before.
-fn why_of<S, T>(link: &TimedLink<S, T>, why: Why) -> Why {
+/// How the connection failed or ended before the answer, or else that all of its reads brought none.
+fn why_without<S, T>(link: &TimedLink<S, T>) -> Why
+    ensures { IsKnown result }
+{
     if link.reason.is_none() && !link.ended {
-        return why;
+        return Why::Unanswered(link.received);
     }
     Why::Broken(Broken {
         reason: link.reason,
@@ -39,11 +42,15 @@ fn why_of<S, T>(link: &TimedLink<S, T>, why: Why) -> Why {
     })
 }
 
-/// What is known of an answer that did not come.
-fn why_none(came: &Result<Outcome, Stop>, why: Why) -> Why {
+/// What is known of what came of a question over a link: of an answer only its status matters, and not how the link fared
+/// behind it.
+fn why_of<S, T>(link: &TimedLink<S, T>, came: &Result<Outcome, Stop>) -> Why
+    ensures { came.now ≡ Err Stop.Link → IsKnown result }
+{
     match came {
         Ok(outcome) => why_of_outcome(outcome),
-        Err(_) => why,
+        Err(Stop::NoMemory) => Why::Unknown,
+        Err(_) => why_without(link),
     }
 }
 
@@ -63,12 +70,13 @@ where
     S: Stream + Drop,
     T: Timer + Drop,
     requires { IfSome url (λ url. length url.now ≤ 4095) }
-    ensures { IfErr result IsTalkStop }
+    ensures stop { IfErr result IsTalkStop }
+    ensures known { result ≡ Err Stop.Link → IsKnown why.new }
 {
     let mut link = TimedLink::new(stream, timer, Duration::from_secs(u64::from(seconds)));
     let mut clock = MachineClock::new(rt);
     let came = talk_anew(rt.alloc(), &mut link, &mut clock, inquiry, url);
-    *why = why_of(&link, why_none(&came, *why));
+    *why = why_of(&link, &came);
     came
 }
 
@@ -91,15 +99,16 @@ where
     O: Write,
     E: Write,
     requires { IfSome url (λ url. length url.now ≤ 4095) }
-    ensures { IsAskStatus result }
+    ensures status { IsAskStatus result }
+    ensures known { result ≡ 3 → IsKnown why.new }
 {
     match talk_through(rt, stream, timer, seconds, inquiry, url, why) {
         Ok(outcome) => {
-            let status = status_of(rt.alloc(), &outcome, inquiry.form, output, errors);
+            let status = status_of(rt.alloc(), &outcome, inquiry.form, output, errors, why);
             let_go(outcome);
             status
         }
-        Err(stop) => told(&stop, errors),
+        Err(stop) => told_and_noted(&stop, errors, why),
     }
 }
 
@@ -125,6 +134,8 @@ where
     ensures reached { MatchResult stream (λ _. IsOk result) (λ reason. result ≡ Err (stop_of_reason reason)) }
     ensures ok { IfOk result IsAskStatus }
     ensures err { IfErr result IsReachStop }
+    ensures known { IfOk result (λ status. status ≡ 3 → IsKnown why.new) }
+    ensures unlinked { result ≡ Err Stop.Link → IsKnown why.new }
     ensures quiet { IfErr result (λ _. O.contents output.new ≡ O.contents output.old) }
     ensures untold { IfErr result (λ _. E.contents errors.new ≡ E.contents errors.old) }
 {
@@ -171,7 +182,8 @@ where
     R: Net + HostClock + AllocGlobal,
     O: Write,
     E: Write,
-    ensures { IsAskStatus result }
+    ensures status { IsAskStatus result }
+    ensures known { result ≡ 3 → IsKnown why.new }
 {
     tell_local(&listener, errors);
     let came = listener.accept(rt, rt.alloc(), &mut deadline);
@@ -205,6 +217,8 @@ where
     ensures bound { MatchResult listener (λ _. IsOk result) (λ reason. result ≡ Err (stop_of_reason reason)) }
     ensures ok { IfOk result IsAskStatus }
     ensures err { IfErr result IsReachStop }
+    ensures known { IfOk result (λ status. status ≡ 3 → IsKnown why.new) }
+    ensures unlinked { result ≡ Err Stop.Link → IsKnown why.new }
     ensures quiet { IfErr result (λ _. O.contents output.new ≡ O.contents output.old) }
     ensures untold { IfErr result (λ _. E.contents errors.new ≡ E.contents errors.old) }
 {

@@ -1,11 +1,12 @@
 //! The command `serve` with several connections at one time.
 
-ghost use Rattle.std.specs.Prelude.{◌≡◌, ◌⊎◌, false, IsOk, IfOk, IfErr, MatchResult};
+ghost use Rattle.std.specs.Prelude.{◌≡◌, ◌⊎◌, false, Err, IsOk, IfOk, IfErr, MatchResult};
 ghost use Rattle.ua_command.specs.Serve.{IsServeStatus, IsServeStop, Serves};
+ghost use Rattle.ua_command.specs.Why.{IsKnown};
 
 use crate::ending::Ending;
-use crate::run::told;
-use crate::serve::{print_ended, status_with};
+use crate::run::{told, told_and_noted};
+use crate::serve::{note, print_ended, status_with};
 use crate::settings::settings_in;
 use crate::stop::Stop;
 use crate::why::Why;
@@ -17,7 +18,6 @@ use std::{fmt, io};
 use ua_disco::Settings;
 use ua_link::{Clock, MachineClock, Over, ReadyLink};
 use ua_serve::{Connections, Parted, Sockets, Step, TcpSockets};
-use ua_socket::Reason;
 use ua_value::plumbing::let_go;
 use ua_words::Source;
 
@@ -75,7 +75,8 @@ fn tell_failure<E: Write>(errors: &mut E, count: u64) {
     let _ = errors.flush();
 }
 
-/// Gives each place a step, and the exit status of what came of them and before.
+/// Gives each place a step, and the exit status of what came of them and before. Where the stop is a link, `why` says that
+/// nobody could be accepted.
 fn round<'a, L, S, C, O, E>(
     connections: &mut Connections<'a, L>,
     sockets: &mut S,
@@ -83,6 +84,7 @@ fn round<'a, L, S, C, O, E>(
     status: u8,
     output: &mut O,
     errors: &mut E,
+    why: &mut Why,
 ) -> Result<u8, Stop>
 where
     L: ReadyLink + Drop,
@@ -93,6 +95,7 @@ where
     requires { IsServeStatus status }
     ensures status { IfOk result IsServeStatus }
     ensures stop { IfErr result (λ stop. (stop ≡ Stop.File) ⊎ (stop ≡ Stop.Link)) }
+    ensures known { result ≡ Err Stop.Link → IsKnown why.new }
 {
     let mut status = status;
     'places: for place in 0..connections.places() {
@@ -103,19 +106,24 @@ where
                 print_parted(output, parted)?;
             }
             Step::NotAccepted(count) => tell_failure(errors, count),
-            Step::Failed => return Err(Stop::Link),
+            Step::Failed => {
+                *why = Why::NoneAccepted;
+                return Err(Stop::Link);
+            }
         }
     }
     Ok(status)
 }
 
-/// Rounds until all connections were served, and the exit status of their ends.
+/// Rounds until all connections were served, and the exit status of their ends. Where the stop is a link, `why` says how
+/// it failed.
 fn rounds<'a, L, S, C, O, E>(
     connections: &mut Connections<'a, L>,
     sockets: &mut S,
     clock: &mut C,
     output: &mut O,
     errors: &mut E,
+    why: &mut Why,
 ) -> Result<u8, Stop>
 where
     L: ReadyLink + Drop,
@@ -125,6 +133,7 @@ where
     E: Write,
     ensures status { IfOk result IsServeStatus }
     ensures stop { IfErr result (λ stop. (stop ≡ Stop.File) ⊎ (stop ≡ Stop.Link)) }
+    ensures known { result ≡ Err Stop.Link → IsKnown why.new }
 {
     let mut status = 0;
     'rounds: for _ in 0..u64::MAX {
@@ -132,10 +141,12 @@ where
             return Ok(status);
         }
         if connections.wait(sockets, clock).is_err() {
+            *why = Why::NotWaited;
             return Err(Stop::Link);
         }
-        status = round(connections, sockets, clock, status, output, errors)?;
+        status = round(connections, sockets, clock, status, output, errors, why)?;
     }
+    *why = Why::NotWaited;
     Err(Stop::Link)
 }
 
@@ -145,8 +156,8 @@ where
 /// is told on `errors` and tried again after half a second, a hundred times in a row at most.
 ///
 /// The result is the exit status: 3 where nobody can be accepted so often, nothing can be waited for or a line can't be
-/// printed, and 4 where there is no memory to begin; these end the call and are told on `errors`. Else it is that of
-/// `serve_on`; a connection that patience ended counts as one that went well.
+/// printed, of which `why` says which it was, and 4 where there is no memory to begin; these end the call and are told on
+/// `errors`. Else it is that of `serve_on`; a connection that patience ended counts as one that went well.
 pub fn serve_sockets<S, C, O, E>(
     alloc: Global,
     sockets: &mut S,
@@ -155,6 +166,7 @@ pub fn serve_sockets<S, C, O, E>(
     crowd: Crowd,
     output: &mut O,
     errors: &mut E,
+    why: &mut Why,
 ) -> u8
 where
     S: Sockets,
@@ -173,11 +185,11 @@ where
     else {
         return told(&Stop::NoMemory, errors);
     };
-    let served = rounds(&mut connections, sockets, clock, output, errors);
+    let served = rounds(&mut connections, sockets, clock, output, errors, why);
     let_go(connections);
     match served {
         Ok(status) => status,
-        Err(stop) => told(&stop, errors),
+        Err(stop) => told_and_noted(&stop, errors, why),
     }
 }
 
@@ -197,12 +209,14 @@ fn serve_at<R, O, E>(
     crowd: Crowd,
     output: &mut O,
     errors: &mut E,
+    why: &mut Why,
 ) -> Result<u8, Stop>
 where
     R: HostClock + AllocGlobal,
     O: Write,
     E: Write,
     ensures bound { MatchResult sockets (λ _. IsOk result) (λ _. result ≡ Err Stop.Link) }
+    ensures known { IfErr sockets (λ _. IsKnown why.old) → result ≡ Err Stop.Link → IsKnown why.new }
     ensures ok { IfOk result IsServeStatus }
     ensures err { IfErr result (λ stop. stop ≡ Stop.Link) }
     ensures quiet { IfErr result (λ _. O.contents output.new ≡ O.contents output.old) }
@@ -221,14 +235,15 @@ where
         crowd,
         output,
         errors,
+        why,
     ))
 }
 
 /// Serves so many connections by the settings of the source, several at one time, and gives the exit status. It listens at
 /// the address, and tells on `errors` which one it is.
 ///
-/// The settings are read first, and `Link` says that nothing can listen at the address, and `why` for which reason.
-/// Nothing is printed before.
+/// The settings are read first, and `Link` says that nothing can listen at the address. Nothing is printed before. `why`
+/// has the reason of that, and of what ends the command later.
 pub fn serve_many<R, O, E>(
     rt: &R,
     source: &Source,
@@ -244,15 +259,14 @@ where
     E: Write,
     ensures ok { IfOk result (Serves false source.now) }
     ensures err { IfErr result (IsServeStop source.now) }
+    ensures known { result ≡ Err Stop.Link → IsKnown why.new }
     ensures quiet { IfErr result (λ _. O.contents output.new ≡ O.contents output.old) }
     ensures untold { IfErr result (λ _. E.contents errors.new ≡ E.contents errors.old) }
 {
     let settings = settings_in(rt, source)?;
     let sockets = TcpSockets::bind(rt, rt.alloc(), address, crowd.at_once as usize);
-    if let Err(error) = &sockets {
-        *why = Why::NotListening(Reason::System(*error));
-    }
-    let served = serve_at(rt, &settings, sockets, crowd, output, errors);
+    note(&sockets, why);
+    let served = serve_at(rt, &settings, sockets, crowd, output, errors, why);
     let_go(settings);
     served
 }

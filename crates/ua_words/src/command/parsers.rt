@@ -55,7 +55,10 @@ fn value_parser<'a>(alloc: Global, names: &'a [&'a str]) -> Result<Parser<'a>, A
         with_hex,
         flag(alloc, "show", "Prints the value itself behind its spelling"),
     );
-    with_word(with_show, json_flag(alloc))
+    with_word(
+        with_show,
+        json_flag(alloc, "Prints one object of JSON in the place of all lines"),
+    )
 }
 
 fn show_parser<'a>(alloc: Global) -> Result<Parser<'a>, AllocError>
@@ -101,10 +104,13 @@ fn show_parser<'a>(alloc: Global) -> Result<Parser<'a>, AllocError>
         flag(
             alloc,
             "all",
-            "Prints all that servers answered, behind the line of each answer",
+            "Prints all that servers answered, under the line of each answer",
         ),
     );
-    with_word(with_all, json_flag(alloc))
+    with_word(
+        with_all,
+        json_flag(alloc, "Prints an object of JSON in the place of each line"),
+    )
 }
 
 /// A parser with the words by which several connections are served at once.
@@ -206,7 +212,13 @@ fn with_wishes<'a>(
         with_server,
         flag(alloc, "all", "Prints all that the server said"),
     );
-    with_word(with_all, json_flag(alloc))
+    with_word(
+        with_all,
+        json_flag(
+            alloc,
+            "Prints an object of JSON for each application or endpoint, in the place of its lines",
+        ),
+    )
 }
 
 fn ask_parser<'a>(alloc: Global, names: &'a [&'a str]) -> Result<Parser<'a>, AllocError>

@@ -122,16 +122,12 @@ pub fn reverse_flag<'a>(alloc: Global, help: &'a str) -> Arg<'a>
     flag(alloc, "reverse", help)
 }
 
-/// The flag for JSON.
-pub fn json_flag<'a>(alloc: Global) -> Arg<'a>
+/// The flag for JSON, with its line in the help.
+pub fn json_flag<'a>(alloc: Global, help: &'a str) -> Arg<'a>
     ensures local { result.global ≡ false }
     ensures rule { rule_of result ≡ flag_rule (codes "json") }
 {
-    flag(
-        alloc,
-        "json",
-        "Prints all that is known in JSON, an object a line",
-    )
+    flag(alloc, "json", help)
 }
 
 /// A text behind a name of its own, which may be there again and again.
