@@ -5,6 +5,7 @@ pub mod Stop
 pub mod Printed
 pub mod End
 pub mod Answer
+pub mod Input
 pub mod Begun
 pub mod Show
 pub mod Serve
