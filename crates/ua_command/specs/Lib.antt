@@ -6,6 +6,7 @@ pub mod Why
 pub mod Printed
 pub mod End
 pub mod Answer
+pub mod Input
 pub mod Begun
 pub mod Show
 pub mod Serve

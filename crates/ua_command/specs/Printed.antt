@@ -1,5 +1,5 @@
 -- What `value` prints.
-use Rattle.std.specs.Prelude.{◌≡◌, ℕ, List, ◌++◌, [], codes, length, Option, Ok}
+use Rattle.std.specs.Prelude.{◌≡◌, ℕ, Bool, true, false, List, ◌++◌, [], codes, length, Option, Ok}
 use Rattle.std.specs.Fmt.{decimal}
 use Rattle.std.specs.Int.{w8, w16, w32, w64}
 use Rattle.hex.specs.Hex.{encode_lower}
@@ -74,13 +74,14 @@ shape_of types.DiagnosticInfo = two_lines diagnostic
 abbrev pub Prints : Shape → List ℕ → List ℕ → Type 0
 Prints s input text = (x : s.Value × ℕ) × Reads s.format input (Ok x) × (text ≡ value_lines x.1 (length input) (s.format.canon x.0) ++ s.last x.0)
 
--- the lines of a value stand behind what the writer held
-abbrev pub PrintsOnto : Shape → List ℕ → Option (List ℕ) → Option (List ℕ) → Type 0
-PrintsOnto s input old new = (text : List ℕ) × Prints s input text × Appends old new text
+-- the text is the lines of a value, with more behind them where all is asked for
+abbrev pub IsPrinted : Bool → Shape → List ℕ → List ℕ → Type 0
+IsPrinted false s input text = Prints s input text
+IsPrinted true s input text = (lines more : List ℕ) × Prints s input lines × (text ≡ lines ++ more)
 
--- the same with more behind them
-abbrev pub PrintsMore : Shape → List ℕ → Option (List ℕ) → Option (List ℕ) → Type 0
-PrintsMore s input old new = (lines more : List ℕ) × Prints s input lines × Appends old new (lines ++ more)
+-- it stands behind what the writer held
+abbrev pub PrintsOnto : Bool → Shape → List ℕ → Option (List ℕ) → Option (List ℕ) → Type 0
+PrintsOnto whole s input old new = (text : List ℕ) × IsPrinted whole s input text × Appends old new text
 
 -- a text that is not said here
 abbrev pub PrintsSome : Option (List ℕ) → Option (List ℕ) → Type 0
@@ -92,8 +93,8 @@ RefusesOnto s input old new = BeginsNone s.format.grammar input × Appends old n
 
 -- what is printed of a value in each form; that of JSON is not said here
 abbrev pub PrintsIn : Form → Shape → List ℕ → Option (List ℕ) → Option (List ℕ) → Type 0
-PrintsIn Lines s input old new = PrintsOnto s input old new
-PrintsIn Whole s input old new = PrintsMore s input old new
+PrintsIn Lines s input old new = PrintsOnto false s input old new
+PrintsIn Whole s input old new = PrintsOnto true s input old new
 PrintsIn Json s input old new = PrintsSome old new
 
 -- and of bytes that begin with none

@@ -20,9 +20,13 @@ pub data Content : Type 0 where
   Bytes : List ℕ → Content
   Malformed : Content
 
--- all but the space and the carriage return
+-- what a line drops: the space and the carriage return
+abbrev pub is_dropped : ℕ → Bool
+is_dropped c = c == 32 || c == 13
+
+-- all else
 abbrev pub is_kept : ℕ → Bool
-is_kept c = not (c == 32 || c == 13)
+is_kept c = not (is_dropped c)
 
 -- the number of decimal digits that is no later than the greatest moment
 abbrev pub moment_in : List ℕ → Option ℤ

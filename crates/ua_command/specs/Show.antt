@@ -22,29 +22,18 @@ abbrev pub LeavesFor : Capture → Option (List ℕ) → Option (List ℕ) → T
 LeavesFor Input old new = Unit {0}
 LeavesFor (File path) old new = new ≡ old
 
--- the lines of these bytes stand behind what the writer held, and the status is theirs
-pub record ShowsBytes (bytes : List ℕ) (old new : Option (List ℕ)) (status : ℕ) : Type 0 where
-  pub printed : Appends old new (shown bytes).text
-  pub status_is : status ≡ (shown bytes).status
+-- the text that these bytes come to in a form: their lines, these with lines of all that servers answered between them, or in JSON so many lines, an object each
+abbrev pub IsShownIn : Form → List ℕ → List ℕ → Type 0
+IsShownIn Lines bytes text = text ≡ (shown bytes).text
+IsShownIn Whole bytes text = IsWoven (shown bytes).text text
+IsShownIn Json bytes text = AreLines (told_in_json bytes).lines text
 
--- in JSON so many lines do, an object each, and the status is the same
-pub record ShowsJson (bytes : List ℕ) (old new : Option (List ℕ)) (status : ℕ) : Type 0 where
+-- that text stands behind what the writer held, and the status is the same in each form
+pub record ShowsIn (form : Form) (bytes : List ℕ) (old new : Option (List ℕ)) (status : ℕ) : Type 0 where
   pub text : List ℕ
-  pub lines : AreLines (told_in_json bytes).lines text
+  pub is_shown : IsShownIn form bytes text
   pub printed : Appends old new text
   pub status_is : status ≡ (shown bytes).status
-
--- with all that servers answered, lines of answers stand between these lines, and the status is the same
-pub record ShowsWhole (bytes : List ℕ) (old new : Option (List ℕ)) (status : ℕ) : Type 0 where
-  pub text : List ℕ
-  pub woven : IsWoven (shown bytes).text text
-  pub printed : Appends old new text
-  pub status_is : status ≡ (shown bytes).status
-
-abbrev pub ShowsIn : Form → List ℕ → Option (List ℕ) → Option (List ℕ) → ℕ → Type 0
-ShowsIn Lines bytes old new status = ShowsBytes bytes old new status
-ShowsIn Whole bytes old new status = ShowsWhole bytes old new status
-ShowsIn Json bytes old new status = ShowsJson bytes old new status
 
 -- Raw bytes do not begin as a file of packets does. They are shown in a form, and nothing is told.
 pub record ShowsRaw (form : Form) (bytes : List ℕ) (old new told told' : Option (List ℕ)) (status : ℕ) : Type 0 where

@@ -3,7 +3,7 @@
 ghost use Rattle.std.specs.Prelude.{IfOk};
 ghost use Rattle.ua_command.specs.Begun.{IsBegun};
 
-use crate::input::{InputFault, MOST_READS};
+use crate::input::{InputFault, MOST_READS, PIECE, read_onto};
 use std::alloc::Global;
 use std::io::Read;
 use ua_trace::is_capture;
@@ -25,16 +25,10 @@ pub fn begin<I: Read>(alloc: Global, input: &mut I) -> Result<Begun, InputFault>
     ensures { IfOk result (IsBegun (I.remaining input.old) (I.remaining input.new)) }
 {
     let mut all = Vec::new(alloc);
-    let mut piece = [0u8; 4096];
+    let mut piece = [0u8; PIECE];
     'reads: for _ in 0..MOST_READS {
-        let Ok(n) = input.read(&mut piece) else {
-            return Err(InputFault::Failed);
-        };
-        if n == 0 {
+        if !read_onto(input, &mut piece, &mut all)? {
             return Ok(Begun::Raw(all));
-        }
-        if all.extend_from_slice(&piece[..n]).is_err() {
-            return Err(InputFault::NoMemory);
         }
         if is_capture(all.as_slice()) {
             return Ok(Begun::Packets(all));

@@ -1,8 +1,8 @@
 //! What a line of a script drops, and where lines end: 32 bytes at a time.
 
-ghost use Rattle.std.specs.Prelude.{◌≡◌, ◌==◌, ◌||◌, ◌+◌, ◌<◌, ◌≤◌, ℕ, false, true, length, filter, position, slice_index, take};
+ghost use Rattle.std.specs.Prelude.{◌≡◌, ◌==◌, ◌+◌, ◌<◌, ◌≤◌, ℕ, false, true, length, filter, position, slice_index, take};
 ghost use Rattle.std.specs.List.{list_all};
-ghost use Rattle.ua_command.specs.Script.{is_kept};
+ghost use Rattle.ua_command.specs.Script.{is_dropped, is_kept};
 ghost use Rattle.ua_command.specs.Search.{AreKept};
 
 use std::simd::prelude::*;
@@ -10,17 +10,17 @@ use std::simd::prelude::*;
 /// Bytes of a block.
 const BLOCK: usize = 32;
 
-/// Whether a line drops a byte: a space or a carriage return.
+/// What a line drops: a space or a carriage return. A line is read without it (docs/FORMATS.md, "The command").
 #[inline(always)]
 pub fn is_dropped(byte: u8) -> bool
-    ensures { result ≡ (byte == 32 || byte == 13) }
+    ensures { result ≡ is_dropped byte }
 {
     byte == b' ' || byte == b'\r'
 }
 
 /// Whether a line drops all of its bytes.
 pub fn are_dropped(line: &[u8]) -> bool
-    ensures { result ≡ list_all (λ c. c == 32 || c == 13) line.now }
+    ensures { result ≡ list_all is_dropped line.now }
 {
     line.iter().all(|c| is_dropped(*c))
 }

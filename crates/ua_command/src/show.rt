@@ -1,8 +1,9 @@
 //! The command `show`: prints the frames in the raw bytes of one direction, or in a file of packets.
 
 ghost use Rattle.std.specs.Prelude.{◌≡◌, ◌≤◌, IfOk, IfErr};
-ghost use Rattle.ua_command.specs.Show.{IsTraceStatus, LeavesFor, ShowsBytes, ShowsWhole, ShowsJson, ShowsIn, ShowsFrom, ShowsCapture};
+ghost use Rattle.ua_command.specs.Show.{IsShownIn, IsTraceStatus, LeavesFor, ShowsIn, ShowsFrom, ShowsCapture};
 ghost use Rattle.ua_command.specs.Stop.{IsFileStop, IsQuiet};
+ghost use Rattle.ua_print.specs.Capture.{shown};
 
 use crate::begun::{Begun, begin};
 use crate::file::stop_of_open;
@@ -16,40 +17,26 @@ use std::rt::Files;
 use ua_json::frames_json;
 use ua_print::lines_of;
 use ua_trace::{Choice, Trace, whole_lines_of};
+use ua_value::NoMemory;
 use ua_value::plumbing::let_go;
 use ua_words::{Capture, Form};
 
-/// Prints the lines of these bytes, and gives the exit status.
-fn show_bytes<O: Write>(alloc: Global, bytes: &[u8], output: &mut O) -> Result<u8, Stop>
-    ensures ok { IfOk result (ShowsBytes bytes.now (O.contents output.old) (O.contents output.new)) }
-    ensures err { IfErr result IsFileStop }
-    ensures quiet { IfErr result (λ stop. IsQuiet stop (O.contents output.old) (O.contents output.new)) }
+/// The text of these bytes in this form, and the exit status.
+fn shown_in(alloc: Global, bytes: &[u8], form: Form) -> Result<(Vec<u8>, u8), NoMemory>
+    ensures text { IfOk result (λ x. IsShownIn form bytes.now x.0.items) }
+    ensures status { IfOk result (λ x. x.1 ≡ (shown bytes.now).status) }
 {
-    let (text, status) = lines_of(alloc, bytes)?;
-    print(output, text.as_str())?;
-    Ok(status)
-}
-
-/// Prints the lines of these bytes with all that servers answered, and gives the exit status.
-fn show_whole<O: Write>(alloc: Global, bytes: &[u8], output: &mut O) -> Result<u8, Stop>
-    ensures ok { IfOk result (ShowsWhole bytes.now (O.contents output.old) (O.contents output.new)) }
-    ensures err { IfErr result IsFileStop }
-    ensures quiet { IfErr result (λ stop. IsQuiet stop (O.contents output.old) (O.contents output.new)) }
-{
-    let (text, status) = whole_lines_of(alloc, bytes)?;
-    print_bytes(output, text.as_slice())?;
-    Ok(status)
-}
-
-/// Prints these bytes in JSON, and gives the exit status.
-fn show_json<O: Write>(alloc: Global, bytes: &[u8], output: &mut O) -> Result<u8, Stop>
-    ensures ok { IfOk result (ShowsJson bytes.now (O.contents output.old) (O.contents output.new)) }
-    ensures err { IfErr result IsFileStop }
-    ensures quiet { IfErr result (λ stop. IsQuiet stop (O.contents output.old) (O.contents output.new)) }
-{
-    let (text, status) = frames_json(alloc, bytes)?;
-    print(output, text.as_str())?;
-    Ok(status)
+    match form {
+        Form::Lines => {
+            let (text, status) = lines_of(alloc, bytes)?;
+            Ok((text.into_bytes(), status))
+        }
+        Form::Json => {
+            let (text, status) = frames_json(alloc, bytes)?;
+            Ok((text.into_bytes(), status))
+        }
+        Form::Whole => whole_lines_of(alloc, bytes),
+    }
 }
 
 /// Prints these bytes in this form, and gives the exit status.
@@ -58,11 +45,9 @@ fn show_in<O: Write>(alloc: Global, bytes: &[u8], form: Form, output: &mut O) ->
     ensures err { IfErr result IsFileStop }
     ensures quiet { IfErr result (λ stop. IsQuiet stop (O.contents output.old) (O.contents output.new)) }
 {
-    match form {
-        Form::Json => show_json(alloc, bytes, output),
-        Form::Lines => show_bytes(alloc, bytes, output),
-        Form::Whole => show_whole(alloc, bytes, output),
-    }
+    let (text, status) = shown_in(alloc, bytes, form)?;
+    print_bytes(output, text.as_slice())?;
+    Ok(status)
 }
 
 /// The bytes that are read of a file of packets at a time.

@@ -1,15 +1,16 @@
 //! The command `value`: reads one value of a built-in type, and prints what it is.
 
-ghost use Rattle.std.specs.Prelude.{◌≡◌, ◌≤◌, ◌++◌, ℕ, List, length, IfOk, IfErr, OnOk, string_bytes, Ok, Err};
+ghost use Rattle.std.specs.Prelude.{◌≡◌, ◌≤◌, ◌++◌, ℕ, List, length, IfOk, IfErr, OnOk, Ok, Err};
 ghost use Rattle.ua_value.specs.Format.{Reads, input_limit};
 ghost use Rattle.ua_print.specs.Printed.{node_text};
-ghost use Rattle.ua_command.specs.Printed.{value_lines, text_line, shape_of, two_lines, Prints, PrintsOnto, RefusesOnto, PrintsMore, PrintsSome, PrintsIn, RefusesIn};
+ghost use Rattle.ua_command.specs.Printed.{value_lines, text_line, shape_of, two_lines, Prints, IsPrinted, PrintsOnto, RefusesOnto, PrintsSome, PrintsIn, RefusesIn};
 ghost use Rattle.ua_command.specs.Stop.{IsFileStop, IsQuiet};
 ghost use Rattle.ua_kind.specs.declared.kind.Kind.TheVariants.{Guid as guid_type, NodeId as node_id_type};
 
-use crate::stop::{Stop, print};
+use crate::stop::{Stop, print, print_bytes};
 use std::alloc::{AllocError, Global};
 use std::io::Write;
+use ua_hex::encode_onto;
 use ua_json::{add_refused_value, add_value};
 use ua_lines::add_value_of;
 use ua_print::add_node;
@@ -45,19 +46,28 @@ fn read_value<T: Wire>(alloc: Global, bytes: &[u8]) -> Result<Found<T>, ReadFaul
 }
 
 /// How many bytes were used, and the canonical spelling.
-fn lines(alloc: Global, used: usize, len: usize, canon: &[u8]) -> Result<String, NoMemory>
-    ensures { IfOk result (λ text. string_bytes text ≡ value_lines used len canon.now) }
+fn lines(alloc: Global, used: usize, len: usize, canon: &[u8]) -> Result<Vec<u8>, NoMemory>
+    ensures { IfOk result (λ lines. lines.items ≡ value_lines used len canon.now) }
 {
-    let digits = hex::encode(alloc, canon)?;
-    let mut text = format!(in alloc; "used {used} of {len}\n")?;
-    writeln!(text, "canon {digits}")?;
-    Ok(text)
+    let mut lines = format!(in alloc; "used {used} of {len}\ncanon ")?.into_bytes();
+    encode_onto(&mut lines, canon)?;
+    lines.push(b'\n')?;
+    Ok(lines)
+}
+
+/// Appends the third line, which is a text. After an error a beginning of it may stand there.
+fn add_text_line(lines: &mut Vec<u8>, text: &str) -> Result<(), NoMemory>
+    ensures { OnOk result (lines.new.items ≡ lines.old.items ++ text_line text.now) }
+{
+    lines.extend_from_slice(b"text ")?;
+    lines.extend_from_slice(text.as_bytes())?;
+    lines.extend_from_slice(b"\n")
 }
 
 /// The lines of a value of a type that has no third line.
-fn plain<T: Wire>(alloc: Global, bytes: &[u8]) -> Result<String, ReadFault>
+fn plain<T: Wire>(alloc: Global, bytes: &[u8]) -> Result<Vec<u8>, ReadFault>
     requires { length bytes.now ≤ input_limit }
-    ensures ok { IfOk result (λ text. Prints (two_lines T.format) bytes.now (string_bytes text)) }
+    ensures ok { IfOk result (λ lines. Prints (two_lines T.format) bytes.now lines.items) }
     ensures err { IfErr result (λ e. Reads T.format bytes.now (Err e)) }
 {
     let found = read_value::<T>(alloc, bytes)?;
@@ -65,42 +75,42 @@ fn plain<T: Wire>(alloc: Global, bytes: &[u8]) -> Result<String, ReadFault>
     Ok(lines)
 }
 
-fn guid(alloc: Global, bytes: &[u8]) -> Result<String, ReadFault>
+fn guid(alloc: Global, bytes: &[u8]) -> Result<Vec<u8>, ReadFault>
     requires { length bytes.now ≤ input_limit }
-    ensures ok { IfOk result (λ text. Prints (shape_of guid_type) bytes.now (string_bytes text)) }
+    ensures ok { IfOk result (λ lines. Prints (shape_of guid_type) bytes.now lines.items) }
     ensures err { IfErr result (λ e. Reads (shape_of guid_type).format bytes.now (Err e)) }
 {
     let found = read_value::<Guid>(alloc, bytes)?;
     let text = found.value.text(alloc)?;
     let mut lines = lines(alloc, found.used, bytes.len(), found.canon.as_slice())?;
-    writeln!(lines, "text {text}")?;
+    add_text_line(&mut lines, text.as_str())?;
     Ok(lines)
 }
 
 /// Appends the third line of a node id. After an error a beginning of it may stand there.
-fn add_node_line(text: &mut String, node: &NodeId) -> Result<(), NoMemory>
-    ensures { OnOk result (string_bytes text.new ≡ string_bytes text.old ++ text_line (node_text node.now)) }
+fn add_node_line(alloc: Global, lines: &mut Vec<u8>, node: &NodeId) -> Result<(), NoMemory>
+    ensures { OnOk result (lines.new.items ≡ lines.old.items ++ text_line (node_text node.now)) }
 {
-    text.push_str("text ")?;
-    add_node(text, node)?;
-    text.push_str("\n")
+    let mut text = String::new(alloc);
+    add_node(&mut text, node)?;
+    add_text_line(lines, text.as_str())
 }
 
-fn node_id(alloc: Global, bytes: &[u8]) -> Result<String, ReadFault>
+fn node_id(alloc: Global, bytes: &[u8]) -> Result<Vec<u8>, ReadFault>
     requires { length bytes.now ≤ input_limit }
-    ensures ok { IfOk result (λ text. Prints (shape_of node_id_type) bytes.now (string_bytes text)) }
+    ensures ok { IfOk result (λ lines. Prints (shape_of node_id_type) bytes.now lines.items) }
     ensures err { IfErr result (λ e. Reads (shape_of node_id_type).format bytes.now (Err e)) }
 {
     let found = read_value::<NodeId>(alloc, bytes)?;
     let mut lines = lines(alloc, found.used, bytes.len(), found.canon.as_slice())?;
-    add_node_line(&mut lines, &found.value)?;
+    add_node_line(alloc, &mut lines, &found.value)?;
     Ok(lines)
 }
 
 /// The lines of a value of this type.
-fn lines_of(alloc: Global, kind: Kind, bytes: &[u8]) -> Result<String, ReadFault>
+fn lines_of(alloc: Global, kind: Kind, bytes: &[u8]) -> Result<Vec<u8>, ReadFault>
     requires { length bytes.now ≤ input_limit }
-    ensures ok { IfOk result (λ text. Prints (shape_of kind) bytes.now (string_bytes text)) }
+    ensures ok { IfOk result (λ lines. Prints (shape_of kind) bytes.now lines.items) }
     ensures err { IfErr result (λ e. Reads (shape_of kind).format bytes.now (Err e)) }
 {
     match kind {
@@ -132,69 +142,60 @@ fn lines_of(alloc: Global, kind: Kind, bytes: &[u8]) -> Result<String, ReadFault
     }
 }
 
-/// Prints the lines of the value that the bytes begin with, or `refused` where they begin with none, and gives the exit
-/// status: 0, or 1 for `refused`.
-fn value_in_lines<O: Write>(
-    alloc: Global,
-    kind: Kind,
-    bytes: &[u8],
-    output: &mut O,
-) -> Result<u8, Stop>
-    requires { length bytes.now ≤ input_limit }
-    ensures done { IfOk result (λ status. status ≡ 0 → PrintsOnto (shape_of kind) bytes.now (O.contents output.old) (O.contents output.new)) }
-    ensures refused { IfOk result (λ status. status ≡ 1 → RefusesOnto (shape_of kind) bytes.now (O.contents output.old) (O.contents output.new)) }
-    ensures status { IfOk result (λ status. status ≤ 1) }
-    ensures err { IfErr result IsFileStop }
-    ensures quiet { IfErr result (λ stop. IsQuiet stop (O.contents output.old) (O.contents output.new)) }
-{
-    match lines_of(alloc, kind, bytes) {
-        Ok(text) => {
-            print(output, text.as_str())?;
-            Ok(0)
-        }
-        Err(ReadFault::Refused) => {
-            print(output, "refused\n")?;
-            Ok(1)
-        }
-        Err(ReadFault::NoMemory) => Err(Stop::NoMemory),
-    }
-}
-
-/// Adds the value itself behind its lines.
+/// Appends the value itself to its lines.
 fn add_value_itself(
     alloc: Global,
     kind: Kind,
     bytes: &[u8],
-    lines: &mut String,
+    lines: &mut Vec<u8>,
 ) -> Result<(), NoMemory>
     requires { length bytes.now ≤ input_limit }
-    ensures { OnOk result ((more : List ℕ) × (string_bytes lines.new ≡ string_bytes lines.old ++ more)) }
+    ensures { OnOk result ((more : List ℕ) × (lines.new.items ≡ lines.old.items ++ more)) }
 {
     let mut more = String::new(alloc);
     if let Err(ReadFault::NoMemory) = add_value_of(alloc, &mut more, kind, bytes) {
         return Err(AllocError);
     }
-    lines.push_str(more.as_str())
+    lines.extend_from_slice(more.as_bytes())
 }
 
-/// Prints the lines of the value that the bytes begin with and the value itself behind them, or `refused`.
-fn value_whole<O: Write>(
+/// The lines of a value of this type, and the value itself behind them where all is asked for.
+fn lines_and_value(
     alloc: Global,
     kind: Kind,
     bytes: &[u8],
+    whole: bool,
+) -> Result<Vec<u8>, ReadFault>
+    requires { length bytes.now ≤ input_limit }
+    ensures ok { IfOk result (λ text. IsPrinted whole (shape_of kind) bytes.now text.items) }
+    ensures err { IfErr result (λ e. Reads (shape_of kind).format bytes.now (Err e)) }
+{
+    let mut lines = lines_of(alloc, kind, bytes)?;
+    if whole {
+        add_value_itself(alloc, kind, bytes, &mut lines)?;
+    }
+    Ok(lines)
+}
+
+/// Prints the lines of the value that the bytes begin with, with the value itself where all is asked for, or `refused`
+/// where they begin with none, and gives the exit status: 0, or 1 for `refused`.
+fn value_in_lines<O: Write>(
+    alloc: Global,
+    kind: Kind,
+    bytes: &[u8],
+    whole: bool,
     output: &mut O,
 ) -> Result<u8, Stop>
     requires { length bytes.now ≤ input_limit }
-    ensures done { IfOk result (λ status. status ≡ 0 → PrintsMore (shape_of kind) bytes.now (O.contents output.old) (O.contents output.new)) }
+    ensures done { IfOk result (λ status. status ≡ 0 → PrintsOnto whole (shape_of kind) bytes.now (O.contents output.old) (O.contents output.new)) }
     ensures refused { IfOk result (λ status. status ≡ 1 → RefusesOnto (shape_of kind) bytes.now (O.contents output.old) (O.contents output.new)) }
     ensures status { IfOk result (λ status. status ≤ 1) }
     ensures err { IfErr result IsFileStop }
     ensures quiet { IfErr result (λ stop. IsQuiet stop (O.contents output.old) (O.contents output.new)) }
 {
-    match lines_of(alloc, kind, bytes) {
-        Ok(mut lines) => {
-            add_value_itself(alloc, kind, bytes, &mut lines)?;
-            print(output, lines.as_str())?;
+    match lines_and_value(alloc, kind, bytes, whole) {
+        Ok(text) => {
+            print_bytes(output, text.as_slice())?;
             Ok(0)
         }
         Err(ReadFault::Refused) => {
@@ -250,8 +251,8 @@ pub fn value<O: Write>(
         return Err(Stop::NoMemory);
     }
     match form {
-        Form::Lines => value_in_lines(alloc, kind, bytes, output),
-        Form::Whole => value_whole(alloc, kind, bytes, output),
+        Form::Lines => value_in_lines(alloc, kind, bytes, false, output),
+        Form::Whole => value_in_lines(alloc, kind, bytes, true, output),
         Form::Json => value_in_json(alloc, kind, bytes, output),
     }
 }

@@ -216,7 +216,7 @@ fn value_in(alloc: Global, matches: &ArgMatches) -> Result<Command, WordFault>
         return Err(WordFault::Bad);
     };
     let form = form_by(is_flagged(matches, "show"), is_flagged(matches, "json"));
-    match hex::decode(alloc, digits) {
+    match ua_hex::decode(alloc, digits.as_bytes()) {
         Ok(bytes) => Ok(Command::Value { kind, bytes, form }),
         Err(FromHexError::OutOfMemory) => Err(WordFault::NoMemory),
         Err(_) => Err(WordFault::Bad),
