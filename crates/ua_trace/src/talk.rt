@@ -81,7 +81,9 @@ impl Talk {
         place: Place,
         connection: &Connection,
         text: &mut String,
-    ) -> Result<(), NoMemory> {
+    ) -> Result<(), NoMemory>
+        ensures bound { OnOk result (self.new.shown ≡ Unknown → self.new.came ≤ 1048576) }
+    {
         if self.shown == Shown::No {
             return Ok(());
         }
@@ -115,7 +117,9 @@ impl Talk {
         place: Place,
         connection: &Connection,
         text: &mut String,
-    ) -> Result<(), NoMemory> {
+    ) -> Result<(), NoMemory>
+        ensures bound { OnOk result (self.new.shown ≡ Unknown → self.new.came ≤ 1048576) }
+    {
         self.shown = judged(self.forth.opening(), self.back.opening(), self.came);
         match self.shown {
             Shown::Unknown => {}
