@@ -1,10 +1,10 @@
 //! What the command does, over any reader and writers.
 
-ghost use Rattle.std.specs.Prelude.{◌≡◌, map, IfOk, IfErr, IfSome, OnOk};
+ghost use Rattle.std.specs.Prelude.{◌≡◌, map, Err, IfOk, IfErr, IfSome, OnOk};
 ghost use Rattle.std.specs.Io.KnownBytes.{Appends};
 ghost use Rattle.ua_command.specs.Run.{Streams, IsDone, IsStop, LeavesInput, Runs};
 ghost use Rattle.ua_command.specs.Stop.{status_of, stop_text, IsQuiet};
-ghost use Rattle.ua_command.specs.Why.{noted};
+ghost use Rattle.ua_command.specs.Why.{noted, IsKnown};
 ghost use Rattle.ua_command.specs.declared.why.Why.TheVariants.{File as file_failed, Output as output_failed};
 
 use crate::answer::answer;
@@ -134,6 +134,7 @@ where
     ensures err { IfErr result (IsStop (map (λ w. w.now) words.entry.now) (I.remaining input.old)) }
     ensures quiet { IfErr result (λ stop. IsQuiet stop (O.contents output.old) (O.contents output.new)) }
     ensures unread { LeavesInput (map (λ w. w.now) words.entry.now) (I.remaining input.old) (I.remaining input.new) }
+    ensures known { result ≡ Err Stop.Link → IsKnown why.new }
 {
     let command = match command_of(rt.alloc(), words) {
         Ok(command) => command,

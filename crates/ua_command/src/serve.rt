@@ -5,14 +5,16 @@ ghost use Rattle.ua_command.specs.Serve.{IsServeStatus, IsServedStatus, IsServeS
 ghost use Rattle.ua_command.specs.Why.{IsKnown};
 
 pub mod many;
+mod streams;
 
 use crate::ending::Ending;
 use crate::run::told_and_noted;
+use crate::serve::streams::{Accepted, Made, Streams};
 use crate::settings::settings_in;
 use crate::stop::{Stop, print};
 use crate::why::Why;
 use std::io::{Read, Write};
-use std::net::{Net, OpenListener, TcpListener, TcpStream};
+use std::net::{Net, OpenListener, TcpListener};
 use std::rt::{Clock, Files};
 use std::{fmt, io};
 use ua_conn::{End, ReverseFault};
@@ -167,54 +169,6 @@ where
         Err(reason) => {
             *why = reason;
             Err(Stop::Link)
-        }
-    }
-}
-
-/// What gives the streams of connections, one after the other.
-trait Streams {
-    type Stream: Read + Write + Drop;
-
-    /// The stream of the next connection, or why there is none.
-    fn next(&self) -> Result<Self::Stream, Why>
-        ensures { IfErr result IsKnown };
-}
-
-/// Those that a listener accepts.
-#[derive(Drop)]
-struct Accepted<'a, L> {
-    listener: &'a L,
-}
-
-impl<'a, L> Streams for Accepted<'a, L>
-where
-    L: OpenListener,
-    L::Stream: Read + Write,
-{
-    type Stream = L::Stream;
-
-    fn next(&self) -> Result<L::Stream, Why> {
-        match self.listener.accept() {
-            Ok((stream, _)) => Ok(stream),
-            Err(error) => Err(Why::NotAccepted(Reason::System(error))),
-        }
-    }
-}
-
-/// Those that are made to an address.
-#[derive(Drop)]
-struct Made<'a, R> {
-    rt: &'a R,
-    address: &'a str,
-}
-
-impl<'a, R: Net> Streams for Made<'a, R> {
-    type Stream = R::Stream;
-
-    fn next(&self) -> Result<R::Stream, Why> {
-        match TcpStream::connect(self.rt, self.address) {
-            Ok(stream) => Ok(stream),
-            Err(error) => Err(Why::NotMade(Reason::System(error))),
         }
     }
 }

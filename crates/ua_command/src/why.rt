@@ -25,7 +25,7 @@ pub enum Why {
     /// A server made no connection to the address.
     NotMade(Reason),
     /// A connection could not be accepted.
-    NotAccepted(Reason),
+    NotAccepted(io::Error),
     /// No connection could be accepted, too often in a row.
     NoneAccepted,
     /// The system does not say which connections may go on.
@@ -52,33 +52,33 @@ pub struct Broken {
 /// BadTcpMessageTypeInvalid: the status of bytes that are no frame of OPC UA (OPC 10000-6, 7.1.5).
 const NO_OPC_UA: u32 = 0x807E_0000;
 
-/// Which end is at the address.
+/// Who is at the address.
 #[derive(Clone, Copy)]
-enum Far {
+enum At {
+    /// This program, which is to listen there.
+    Here,
+    /// A server, to which this program connects.
     Server,
+    /// A client, to which this program connects as a server.
     Client,
 }
 
-/// What to try where nobody listens at the address of this end.
-fn advice_to_start(far: Far) -> &'static str {
-    match far {
-        Far::Server => ": nothing listens there; is the server started, and is this its port?",
-        Far::Client => ": nothing listens there; is the client started, and is this its port?",
-    }
-}
-
 /// What to try where the system says this.
-fn advice(error: &io::Error, far: Far) -> &'static str {
-    match error.kind() {
-        ErrorKind::ConnectionRefused => advice_to_start(far),
-        ErrorKind::TimedOut | ErrorKind::HostUnreachable | ErrorKind::NetworkUnreachable =>
+fn advice(error: &io::Error, at: At) -> &'static str {
+    match (error.kind(), at) {
+        (ErrorKind::ConnectionRefused, At::Client) =>
+            ": nothing listens there; is the client started, and is this its port?",
+        (ErrorKind::ConnectionRefused, _) =>
+            ": nothing listens there; is the server started, and is this its port?",
+        (ErrorKind::TimedOut | ErrorKind::HostUnreachable | ErrorKind::NetworkUnreachable, _) =>
             ": is the machine on, and is there a way to it from here?",
-        ErrorKind::AddrInUse => ": another program listens there; end it, or take another port",
-        ErrorKind::AddrNotAvailable =>
+        (ErrorKind::AddrInUse, At::Here) =>
+            ": another program listens there; end it, or take another port",
+        (ErrorKind::AddrNotAvailable, At::Here) =>
             ": no interface of this machine has the address; 0.0.0.0 stands for all of them",
-        ErrorKind::PermissionDenied => ": ports below 1024 are for those who may",
-        ErrorKind::ConnectionReset => ": the other end broke the connection off",
-        ErrorKind::InvalidInput => ": an address is a host and a port, as press:4840",
+        (ErrorKind::PermissionDenied, At::Here) => ": ports below 1024 are for those who may",
+        (ErrorKind::ConnectionReset, _) => ": the other end broke the connection off",
+        (ErrorKind::InvalidInput, _) => ": an address is a host and a port, as press:4840",
         _ => "",
     }
 }
@@ -97,14 +97,14 @@ impl fmt::Display for Why {
             Why::NobodyCame(Reason::Late, seconds) => {
                 write!(f, "no server connected within {seconds} s")
             }
-            Why::NotReached(reason, _) | Why::NotListening(reason) | Why::NobodyCame(reason, _) => {
-                write!(f, "{}", Said(*reason, Far::Server))
+            Why::NotReached(reason, _) | Why::NobodyCame(reason, _) => {
+                write!(f, "{}", Said(*reason, At::Server))
             }
-            Why::NotMade(reason) => write!(f, "{}", Said(*reason, Far::Client)),
-            Why::NotAccepted(reason) => write!(
+            Why::NotListening(reason) => write!(f, "{}", Said(*reason, At::Here)),
+            Why::NotMade(reason) => write!(f, "{}", Said(*reason, At::Client)),
+            Why::NotAccepted(error) => write!(
                 f,
-                "a connection could not be accepted: {}; `ulimit -n` says how many files may be open",
-                Said(*reason, Far::Client)
+                "a connection could not be accepted: {error}; `ulimit -n` says how many files may be open"
             ),
             Why::NoneAccepted => f.write_str(
                 "no connection could be accepted, again and again: `ulimit -n` says how many files may be open",
@@ -131,7 +131,7 @@ impl fmt::Display for Why {
 
 /// What the system said, and what to try.
 #[derive(Clone, Copy)]
-struct Said(Reason, Far);
+struct Said(Reason, At);
 
 impl fmt::Display for Said {
     fn fmt<W: fmt::Write>(&self, f: &mut fmt::Formatter<W>) -> fmt::Result {
@@ -176,11 +176,7 @@ impl fmt::Display for Broken {
                 f,
                 "{received} bytes came and no whole answer; nothing came for {quiet}"
             ),
-            Some(reason) => write!(
-                f,
-                "{}; {received} bytes had come",
-                Said(reason, Far::Server)
-            ),
+            Some(reason) => write!(f, "{}; {received} bytes had come", Said(reason, At::Server)),
         }
     }
 }

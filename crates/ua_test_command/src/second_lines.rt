@@ -128,7 +128,7 @@ fn each_reason_has_its_words(rt: HostRuntime) {
         says(
             &rt,
             &serve,
-            &Why::NotAccepted(Reason::System(error)),
+            &Why::NotAccepted(error),
             "  a:1: a connection could not be accepted: other error; `ulimit -n` says how many files may be open\n"
         )
     );
@@ -154,6 +154,54 @@ fn each_reason_has_its_words(rt: HostRuntime) {
             &ask,
             &Why::Unanswered(7),
             "  a:1: 7 bytes came and no whole answer, in as many reads as a question has: is it an OPC UA server?\n"
+        )
+    );
+}
+
+/// What the system says is advised on as is fit for who is at the address.
+#[test]
+fn advice_is_that_of_who_is_there(rt: HostRuntime) {
+    let serve = ["serve", "default", "a:1", "--connections", "1"];
+    let refused = Reason::System(io::Error::from(io::ErrorKind::ConnectionRefused));
+    let denied = Reason::System(io::Error::from(io::ErrorKind::PermissionDenied));
+    assert!(rt;
+        says(
+            &rt,
+            &serve,
+            &Why::NotListening(denied),
+            "  a:1: permission denied: ports below 1024 are for those who may\n"
+        )
+    );
+    assert!(rt;
+        says(
+            &rt,
+            &serve,
+            &Why::NotMade(denied),
+            "  a:1: permission denied\n"
+        )
+    );
+    assert!(rt;
+        says(
+            &rt,
+            &serve,
+            &Why::NotReached(denied, 30),
+            "  a:1: permission denied\n"
+        )
+    );
+    assert!(rt;
+        says(
+            &rt,
+            &serve,
+            &Why::NotReached(refused, 30),
+            "  a:1: connection refused: nothing listens there; is the server started, and is this its port?\n"
+        )
+    );
+    assert!(rt;
+        says(
+            &rt,
+            &serve,
+            &Why::NotMade(refused),
+            "  a:1: connection refused: nothing listens there; is the client started, and is this its port?\n"
         )
     );
 }
