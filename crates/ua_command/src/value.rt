@@ -170,10 +170,11 @@ fn lines_and_value(
     ensures ok { IfOk result (λ text. IsPrinted whole (shape_of kind) bytes.now text.items) }
     ensures err { IfErr result (λ e. Reads (shape_of kind).format bytes.now (Err e)) }
 {
-    let mut lines = lines_of(alloc, kind, bytes)?;
-    if whole {
-        add_value_itself(alloc, kind, bytes, &mut lines)?;
+    if !whole {
+        return lines_of(alloc, kind, bytes);
     }
+    let mut lines = lines_of(alloc, kind, bytes)?;
+    add_value_itself(alloc, kind, bytes, &mut lines)?;
     Ok(lines)
 }
 
