@@ -3,7 +3,7 @@
 ghost use Rattle.std.specs.Prelude.{◌≡◌, ◌≤◌, ◌++◌, ℕ, List, length, IfOk, IfErr, OnOk, Ok, Err};
 ghost use Rattle.ua_value.specs.Format.{Reads, input_limit};
 ghost use Rattle.ua_print.specs.Printed.{node_text};
-ghost use Rattle.ua_command.specs.Printed.{value_lines, text_line, shape_of, two_lines, Prints, IsPrinted, PrintsOnto, RefusesOnto, PrintsSome, PrintsIn, RefusesIn};
+ghost use Rattle.ua_command.specs.Printed.{value_lines, text_line, shape_of, two_lines, Prints, IsPrinted, PrintsOnto, RefusesOnto, PrintsJson, RefusesJson, PrintsIn, RefusesIn};
 ghost use Rattle.ua_command.specs.Stop.{IsFileStop, IsQuiet};
 ghost use Rattle.ua_kind.specs.declared.kind.Kind.TheVariants.{Guid as guid_type, NodeId as node_id_type};
 
@@ -215,22 +215,25 @@ fn value_in_json<O: Write>(
     output: &mut O,
 ) -> Result<u8, Stop>
     requires { length bytes.now ≤ input_limit }
-    ensures done { IfOk result (λ _. PrintsSome (O.contents output.old) (O.contents output.new)) }
+    ensures done { IfOk result (λ status. status ≡ 0 → PrintsJson (shape_of kind) bytes.now (O.contents output.old) (O.contents output.new)) }
+    ensures refused { IfOk result (λ status. status ≡ 1 → RefusesJson (shape_of kind) bytes.now (O.contents output.old) (O.contents output.new)) }
     ensures status { IfOk result (λ status. status ≤ 1) }
     ensures err { IfErr result IsFileStop }
     ensures quiet { IfErr result (λ stop. IsQuiet stop (O.contents output.old) (O.contents output.new)) }
 {
     let mut text = String::new(alloc);
-    let status = match add_value(alloc, &mut text, kind, bytes) {
-        Ok(()) => 0,
+    match add_value(alloc, &mut text, kind, bytes) {
+        Ok(()) => {
+            print(output, text.as_str())?;
+            Ok(0)
+        }
         Err(ReadFault::Refused) => {
             add_refused_value(&mut text, kind, bytes.len())?;
-            1
+            print(output, text.as_str())?;
+            Ok(1)
         }
-        Err(ReadFault::NoMemory) => return Err(Stop::NoMemory),
-    };
-    print(output, text.as_str())?;
-    Ok(status)
+        Err(ReadFault::NoMemory) => Err(Stop::NoMemory),
+    }
 }
 
 /// Prints in this form the value that the bytes begin with, or that they begin with none, and gives the exit status: 0,

@@ -26,30 +26,42 @@ Begins {V} f bytes (Ok u) = (x : V × ℕ) × Reads f bytes (Ok x)
 Begins f bytes (Err Refused) = BeginsNone f.grammar bytes
 Begins f bytes (Err NoMemory) = Unit {0}
 
--- the same of a type by its kind (OPC 10000-6, 5.2.2)
+-- how the values of a type are spelled
+pub record Spelling : Type 1 where
+  pub Value : Type 0
+  pub format : Format Value
+
+abbrev pub by : {V : Type 0} → Format V → Spelling
+by {V} f = record { Value = V; format = f }
+
+-- the built-in types by their kinds (OPC 10000-6, 5.2.2)
+abbrev pub spelling_of : Kind → Spelling
+spelling_of types.Boolean = by boolean
+spelling_of types.SByte = by (signed w8)
+spelling_of types.Byte = by (unsigned w8)
+spelling_of types.Int16 = by (signed w16)
+spelling_of types.UInt16 = by (unsigned w16)
+spelling_of types.Int32 = by (signed w32)
+spelling_of types.UInt32 = by (unsigned w32)
+spelling_of types.Int64 = by (signed w64)
+spelling_of types.UInt64 = by (unsigned w64)
+spelling_of types.Float = by float_bits
+spelling_of types.Double = by double_bits
+spelling_of types.String = by string
+spelling_of types.DateTime = by date_time
+spelling_of types.Guid = by guid
+spelling_of types.ByteString = by byte_string
+spelling_of types.XmlElement = by xml_element
+spelling_of types.NodeId = by node_id
+spelling_of types.ExpandedNodeId = by expanded_node_id
+spelling_of types.StatusCode = by status_code
+spelling_of types.QualifiedName = by qualified_name
+spelling_of types.LocalizedText = by localized_text
+spelling_of types.ExtensionObject = by extension_object
+spelling_of types.DataValue = by data_format
+spelling_of types.Variant = by variant_format
+spelling_of types.DiagnosticInfo = by diagnostic
+
+-- the same of a type by its kind
 abbrev pub BeginsKind : Kind → List ℕ → Result (Unit {0}) ReadFault → Type 0
-BeginsKind types.Boolean = Begins boolean
-BeginsKind types.SByte = Begins (signed w8)
-BeginsKind types.Byte = Begins (unsigned w8)
-BeginsKind types.Int16 = Begins (signed w16)
-BeginsKind types.UInt16 = Begins (unsigned w16)
-BeginsKind types.Int32 = Begins (signed w32)
-BeginsKind types.UInt32 = Begins (unsigned w32)
-BeginsKind types.Int64 = Begins (signed w64)
-BeginsKind types.UInt64 = Begins (unsigned w64)
-BeginsKind types.Float = Begins float_bits
-BeginsKind types.Double = Begins double_bits
-BeginsKind types.String = Begins string
-BeginsKind types.DateTime = Begins date_time
-BeginsKind types.Guid = Begins guid
-BeginsKind types.ByteString = Begins byte_string
-BeginsKind types.XmlElement = Begins xml_element
-BeginsKind types.NodeId = Begins node_id
-BeginsKind types.ExpandedNodeId = Begins expanded_node_id
-BeginsKind types.StatusCode = Begins status_code
-BeginsKind types.QualifiedName = Begins qualified_name
-BeginsKind types.LocalizedText = Begins localized_text
-BeginsKind types.ExtensionObject = Begins extension_object
-BeginsKind types.DataValue = Begins data_format
-BeginsKind types.Variant = Begins variant_format
-BeginsKind types.DiagnosticInfo = Begins diagnostic
+BeginsKind kind = Begins (spelling_of kind).format
