@@ -13,7 +13,7 @@ use Rattle.ua_command.specs.Settings.{RefusesSource}
 use Rattle.ua_disco.specs.declared.fault.SettingsFault.{SettingsFault}
 use Rattle.ua_command.specs.Serve.{Serves, IsServeStop}
 use Rattle.ua_command.specs.Show.{LeavesFor, ShowsCapture}
-use Rattle.ua_command.specs.Stop.{IsAnswerStop, IsFileStop}
+use Rattle.ua_command.specs.Stop.{IsAnswerStop, IsFileStop, IsSettingsStop}
 use Rattle.ua_kind.specs.declared.kind.Kind.{Kind}
 use Rattle.ua_words.specs.declared.form.Form.{Form}
 use Rattle.ua_words.specs.declared.question.Question.{Question}
@@ -111,6 +111,16 @@ serve_stop words c source left File asked links settings h = inl (c, asked)
 serve_stop words c source left Link asked links settings h = (c, asked, links)
 serve_stop words c source left NoMemory asked links settings h = tt
 
+-- what settings stop a command by stops one that serves by them
+settings_stops : (source : Source) (stop : Stop) → IsSettingsStop source stop → IsServeStop source stop
+settings_stops source (Words text) h = h
+settings_stops source (Settings fault) h = h
+settings_stops source (Line number) h = h
+settings_stops source (Reverse fault) h = h
+settings_stops source File h = h
+settings_stops source Link h = absurd h
+settings_stops source NoMemory h = h
+
 pub serve_stopped : (words : List Text) (source : Source) (address : String Global) (connections : ℕ) (reverse : Bool) (left : Option (List ℕ)) (r : Result ℕ Stop) → AsksFor words (Serve source address connections reverse)
     → IfErr r (IsServeStop source) → IfErr r (IsStop words left)
 serve_stopped words source address connections reverse left (Ok status) asked h = h
@@ -122,9 +132,13 @@ many_stopped words source address connections at_once patience left (Ok status) 
 many_stopped words source address connections at_once patience left (Err stop) asked h = serve_stop words (ServeMany source address connections at_once patience) source left stop asked tt (λ fault refused. refused) h
 
 pub check_stopped : (words : List Text) (source : Source) (address url : String Global) (seconds : ℕ) (left : Option (List ℕ)) (r : Result ℕ Stop) → AsksFor words (Check source address url seconds)
-    → IfErr r (IsServeStop source) → IfErr r (IsStop words left)
+    → IfErr r (IsSettingsStop source) → IfErr r (IsStop words left)
 check_stopped words source address url seconds left (Ok status) asked h = h
-check_stopped words source address url seconds left (Err stop) asked h = serve_stop words (Check source address url seconds) source left stop asked tt (λ fault refused. refused) h
+check_stopped words source address url seconds left (Err stop) asked h = serve_stop words (Check source address url seconds) source left stop asked tt (λ fault refused. refused) (settings_stops source stop h)
+
+-- settings alone stop a check, so no link does
+pub check_unlinked : (source : Source) (r : Result ℕ Stop) → IfErr r (IsSettingsStop source) → r ≡ Err Link → ⊥
+check_unlinked source r h linked = subst (λ x. IfErr x (IsSettingsStop source)) linked h
 
 link_stop : (words : List Text) (c : Command) (left : Option (List ℕ)) (stop : Stop) → AsksFor words c → IsOverLinks c → IsReachStop stop → IsStop words left stop
 link_stop words c left (Words text) asked over h = absurd h

@@ -3,7 +3,7 @@
 ghost use Rattle.std.specs.Prelude.{◌≡◌, ◌<◌, ◌≤◌, ◌-◌, ◌^◌, ◌↔◌, length, Err, IfOk, IfErr, IsTrue};
 ghost use Rattle.ua_command.specs.Ask.{IsAskStatus, IsTalkStop};
 ghost use Rattle.ua_command.specs.Check.{AreSame, listed};
-ghost use Rattle.ua_command.specs.Serve.{IsServeStop};
+ghost use Rattle.ua_command.specs.Stop.{IsSettingsStop};
 ghost use Rattle.ua_command.specs.Why.{IsKnown};
 ghost use Rattle.ua_command.specs.declared.why.Why.TheVariants.{Output as output_failed};
 
@@ -320,7 +320,7 @@ where
     E: Write,
     requires { length machine.url.now ≤ 4095 }
     ensures ok { IfOk result IsAskStatus }
-    ensures err { IfErr result (IsServeStop source.now) }
+    ensures err { IfErr result (IsSettingsStop source.now) }
     ensures known { IfOk result (λ status. status ≡ 3 → IsKnown why.new) }
     ensures quiet { IfErr result (λ _. O.contents output.new ≡ O.contents output.old) }
     ensures untold { IfErr result (λ _. E.contents errors.new ≡ E.contents errors.old) }

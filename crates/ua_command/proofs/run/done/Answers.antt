@@ -1,6 +1,6 @@
-use Rattle.std.proofs.Common.{refl}
+use Rattle.std.proofs.Common.{refl, absurd}
 use Rattle.ua_command.specs.Run.{Streams}
-use Rattle.ua_command.proofs.Ends.{answer_done, answer_reads, value_done, show_done, show_unread, serve_done, many_done, ask_done, check_done, answer_stopped, file_stopped, serve_stopped, many_stopped, link_stopped, check_stopped, asked_short, checked_short}
+use Rattle.ua_command.proofs.Ends.{answer_done, answer_reads, value_done, show_done, show_unread, serve_done, many_done, ask_done, check_done, answer_stopped, file_stopped, serve_stopped, many_stopped, link_stopped, check_stopped, check_unlinked, asked_short, checked_short}
 use Rattle.ua_command.proofs.run.done.Goals as goal
 
 pub returns-in-Answer-clause-done : goal.returns-in-Answer-clause-done
@@ -67,3 +67,6 @@ returns-in-Check-clause-done g c =
 
 pub returns-in-Check-clause-err : goal.returns-in-Check-clause-err
 returns-in-Check-clause-err g c = check_stopped _ c.in-Check.source c.in-Check.address c.in-Check.url c.in-Check.seconds _ c.check.result (rw c.in-Check.is at c.in-Ok.ensures.asked) c.check.ensures.err
+
+pub returns-in-Check-clause-known : goal.returns-in-Check-clause-known
+returns-in-Check-clause-known g c = λ linked. absurd (check_unlinked c.in-Check.source c.check.result c.check.ensures.err linked)
