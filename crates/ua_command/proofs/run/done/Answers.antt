@@ -1,4 +1,4 @@
-use Rattle.std.proofs.Common.{refl, absurd}
+use Rattle.std.proofs.Common.{refl}
 use Rattle.ua_command.specs.Run.{Streams}
 use Rattle.ua_command.proofs.Ends.{answer_done, answer_reads, value_done, show_done, show_unread, serve_done, many_done, ask_done, check_done, answer_stopped, file_stopped, serve_stopped, many_stopped, link_stopped, check_stopped, check_unlinked, asked_short, checked_short}
 use Rattle.ua_command.proofs.run.done.Goals as goal
