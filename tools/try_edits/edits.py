@@ -225,13 +225,13 @@ def may_share(place, other):
     return bool(place.arm and other.arm) and place.arm.match == other.arm.match and place.arm.variant != other.arm.variant
 
 
-def batches_of(places):
-    """Groups the places, the largest group first, so that any two of a group may share a check. What changes no body, or is several pairs, is a group of its own."""
+def batches_of(places, most):
+    """Groups the places, the largest group first, at most so many in one, so that any two of a group may share a check. What changes no body, or is several pairs, is a group of its own."""
     batches = []
     for place in places:
         is_alone = place.is_alone or len(place.pairs) > 1
         for batch, is_open in [] if is_alone else batches:
-            if is_open and all(may_share(place, it) for it in batch):
+            if is_open and len(batch) < most and all(may_share(place, it) for it in batch):
                 batch.append(place)
                 break
         else:
