@@ -56,20 +56,24 @@ class Repository:
 
 
 class Rooms:
-    """The temporary folder: in `whole` each crate is proved as it stands; each lane has a repository of its own for the checks."""
+    """The temporary folder: for each crate a repository in which it is proved as it stands, and for each lane one for the checks."""
 
-    def __init__(self, wanted, anew):
-        self.top = tempfile.mkdtemp(prefix="try-edits-")
-        self.whole = Repository(f"{self.top}/whole")
-        for crate in wanted:
-            self.whole.add(crate, None if anew else f"{crate.folder}/out")
-        self.lanes, self.count, self.lock = [], 0, threading.Lock()
+    def __init__(self, anew):
+        self.top, self.anew = tempfile.mkdtemp(prefix="try-edits-"), anew
+        self.outs, self.lanes, self.count, self.lock = {}, [], 0, threading.Lock()
 
     def prove(self, crate, is_library, jobs):
-        """Proves a crate as it stands, over what is kept of it, and builds its library where one above stands on it. `rt lib` says nothing of a crate whose library is up to date."""
-        status, said = self.whole.run(crate, "lib", "--jobs", str(jobs)) if is_library else (0, "")
+        """Proves a crate as it stands, over what is kept of it, and builds its library where one above stands on it. Each has a
+        repository of its own, since a run of `rt` has all crates below its own to itself there, and others wait for them. `rt lib`
+        says nothing of a crate whose library is up to date."""
+        room = Repository(f"{self.top}/{crate.name}")
+        for it in crate.below:
+            room.add(it, self.outs[it.name])
+        room.add(crate, None if self.anew else f"{crate.folder}/out")
+        self.outs[crate.name] = room.out(crate)
+        status, said = room.run(crate, "lib", "--jobs", str(jobs)) if is_library else (0, "")
         if status == 0 and crate.places and verdicts_of(said) is None:
-            status, said = self.whole.run(crate, "check", "--jobs", str(jobs))
+            status, said = room.run(crate, "check", "--jobs", str(jobs))
         return status, said
 
     def check(self, crate, texts, *more):
@@ -77,14 +81,14 @@ class Rooms:
         lane = self.free_lane()
         for it in [*crate.below, crate]:
             if it not in lane.crates:
-                lane.add(it, self.whole.out(it))
+                lane.add(it, self.outs[it.name])
         for file, text in texts.items():
             write(f"{lane.top}/crates/{crate.name}/{file}", text)
         status, said = lane.run(crate, "check", *more)
         for file in texts:
             shutil.copy2(f"{crate.folder}/{file}", f"{lane.top}/crates/{crate.name}/{file}")
         shutil.rmtree(lane.out(crate), ignore_errors=True)
-        linked(self.whole.out(crate), lane.out(crate))
+        linked(self.outs[crate.name], lane.out(crate))
         with self.lock:
             self.lanes.append(lane)
         return status, said
