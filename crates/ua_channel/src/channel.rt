@@ -8,13 +8,14 @@ ghost use Rattle.ua_channel.specs.Channel.{new_channel, numbered, renewed, heard
 ghost use Rattle.ua_channel.specs.Admission.{admit_open_rows, issue_rows, admit_rows};
 
 use crate::newest::Newest;
-use crate::rules::{judge, judge_open, later};
+use crate::rules::{judge, judge_open};
 use crate::status::{
     BAD_REQUEST_TYPE_INVALID, BAD_SECURITY_MODE_REJECTED, BAD_TCP_NOT_ENOUGH_RESOURCES,
 };
 use crate::token::{Token, revised};
 use std::marker::Model;
 use ua_chunk::{Chunk, OpenChunk};
+use ua_frame::later;
 use ua_service::OpenRequest;
 
 /// The security mode that signs and encrypts nothing.

@@ -1,12 +1,11 @@
 //! What both ends test of a frame.
 
-ghost use Rattle.std.specs.Prelude.{◌≡◌, None, Some, max, option_copied, IfErr, OnOk};
+ghost use Rattle.std.specs.Prelude.{◌≡◌, None, Some, option_copied, IfErr, OnOk};
 ghost use Rattle.std.specs.Str.{bytes_eq};
 ghost use Rattle.ua_channel.specs.Admission.{follows_last, is_text, opening_rows_by, admit_rows};
 ghost use Rattle.ua_channel.specs.Newest.{tokens_of};
 ghost use Rattle.ua_frame.specs.Rows.{first_row};
 ghost use Rattle.ua_chunk.specs.Layout.{policy_none};
-ghost use Rattle.ua_frame.specs.Streams.{moment_of};
 
 use crate::newest::Newest;
 use crate::status::{
@@ -39,16 +38,6 @@ fn follows_last(last: Option<u32>, number: u32) -> bool
     match last {
         None => true,
         Some(last) => follows(last, number),
-    }
-}
-
-/// The greatest of 0, the moment that came and the one before.
-pub(crate) fn later(before: u64, now: i64) -> u64
-    ensures { result ≡ max before (moment_of now) }
-{
-    match u64::try_from(now) {
-        Ok(now) => before.max(now),
-        Err(_) => before,
     }
 }
 

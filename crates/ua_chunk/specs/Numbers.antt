@@ -1,6 +1,10 @@
 -- Sequence numbers. OPC 10000-6, 6.7.2.4.
 use Rattle.std.specs.Prelude.{ℕ, ◌+◌, ◌-◌, ◌%◌, Bool, ◌==◌, ◌||◌, ◌&&◌, nat_lt}
 
+-- the bytes of the largest part of a message in one frame: those of the largest buffer without the header of a chunk
+abbrev pub most_part : ℕ
+most_part = 1048552
+
 -- the greatest number that a sender gives; it is followed by 1
 abbrev pub greatest_number : ℕ
 greatest_number = 4294966272

@@ -80,6 +80,7 @@ impl<'a> Chunk<'a> {
 }
 
 /// The MSG or CLO with these fields, if they have its layout.
+#[inline(always)]
 #[tactic(auto, unfolding(crate::specs::Layout::chunk_of, crate::specs::Layout::chunk_header))]
 fn chunk_at(kind: Kind, flag: u8, fields: &[u8]) -> Option<Chunk<'_>>
     ensures { result ≡ with_flag kind flag (chunk_of fields.now) }
@@ -106,6 +107,7 @@ fn chunk_at(kind: Kind, flag: u8, fields: &[u8]) -> Option<Chunk<'_>>
 ///
 /// `BAD_DECODING_ERROR` exactly where the frame is neither a MSG nor a CLO, or has fewer than the 16 bytes of these
 /// numbers.
+#[inline(always)]
 pub fn message_chunk<'a>(frame: &Frame<'a>) -> Result<Chunk<'a>, u32>
     ensures found { IfOk result (λ c. chunk_in frame.now ≡ Some c) }
     ensures refused { IfErr result (λ status. (chunk_in frame.now ≡ None) × (status ≡ 0x80070000)) }

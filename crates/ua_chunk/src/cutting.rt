@@ -1,7 +1,7 @@
 //! A message that is cut into chunks while it is put: a header goes out before each part, and nothing is moved.
 
 ghost use Rattle.std.specs.Prelude.{◌≡◌, ◌+◌, ◌-◌, ◌≤◌, ◌++◌, length, take, drop, is_ok, if◌then◌else◌, min, OnOk};
-ghost use Rattle.ua_chunk.specs.Numbers.{number_after};
+ghost use Rattle.ua_chunk.specs.Numbers.{most_part, number_after};
 ghost use Rattle.ua_chunk.specs.NumberLaws.{IsNumber};
 ghost use Rattle.ua_chunk.specs.Cutting.{carried, IsCut, IsHeader};
 
@@ -40,9 +40,10 @@ pub(crate) struct Place {
 }
 
 /// The header of the next chunk, which is the last one then.
+#[inline(always)]
 pub(crate) fn next_header(plan: &Plan, at: &mut Place) -> [u8; 24]
     requires some { 1 ≤ plan.now.part_limit }
-    requires least { plan.now.part_limit ≤ 1048552 }
+    requires most { plan.now.part_limit ≤ most_part }
     requires number { IsNumber at.old.number }
     ensures header { IsHeader plan.now.head.channel plan.now.head.token plan.now.head.request_id plan.now.part_limit at.old.number at.old.left result }
     ensures number { at.new.number ≡ number_after at.old.number 1 }
@@ -65,7 +66,7 @@ pub(crate) fn next_header(plan: &Plan, at: &mut Place) -> [u8; 24]
 ///
 /// `NoMemory` where the growth of `out` is refused; a beginning of what is appended may then stand in it.
 fn cut(plan: &Plan, bytes: &[u8], at: &mut Place, out: &mut Vec<u8>) -> Result<(), NoMemory>
-    requires least { plan.now.part_limit ≤ 1048552 }
+    requires most { plan.now.part_limit ≤ most_part }
     requires cut { IsCut plan.now.head.channel plan.now.head.token plan.now.head.request_id plan.now.part_limit plan.now.total plan.now.first at.old.number at.old.left at.old.room at.old.full (drop plan.now.start out.old.items) }
     ensures cut { OnOk result (IsCut plan.now.head.channel plan.now.head.token plan.now.head.request_id plan.now.part_limit plan.now.total plan.now.first at.new.number at.new.left at.new.room at.new.full (drop plan.now.start out.new.items)) }
     ensures carried { OnOk result (carried at.new.full plan.now.part_limit (drop plan.now.start out.new.items) ≡ carried at.old.full plan.now.part_limit (drop plan.now.start out.old.items) ++ bytes.now) }
@@ -99,12 +100,13 @@ pub(crate) struct Cutting {
 impl Model for Cutting {
     ghost use Rattle.std.specs.Prelude.{List, ℕ, ◌≤◌, drop};
     ghost use Rattle.ua_chunk.specs.Cutting.{IsCut, shown};
+    ghost use Rattle.ua_chunk.specs.Numbers.{most_part};
 
     ghost Value = { List ℕ };
 
     ghost view = { λ c. shown c.plan.head.channel c.plan.head.token c.plan.head.request_id c.plan.part_limit c.plan.total c.plan.first c.plan.start c.at.full c.out.items };
 
-    ghost invariant = { λ c. (c.plan.part_limit ≤ 1048552) × IsCut c.plan.head.channel c.plan.head.token c.plan.head.request_id c.plan.part_limit c.plan.total c.plan.first c.at.number c.at.left c.at.room c.at.full (drop c.plan.start c.out.items) };
+    ghost invariant = { λ c. (c.plan.part_limit ≤ most_part) × IsCut c.plan.head.channel c.plan.head.token c.plan.head.request_id c.plan.part_limit c.plan.total c.plan.first c.at.number c.at.left c.at.room c.at.full (drop c.plan.start c.out.items) };
 }
 
 impl Cutting {

@@ -19,4 +19,4 @@ pub use message::{chunk_count, write_chunks, write_measured, write_message};
 pub use opening::{OpenChunk, open_chunk};
 pub use sequence::{Sequence, follows};
 pub use ua_frame::POLICY_NONE;
-pub use writing::{Head, write_abort, write_close, write_open};
+pub use writing::{CHUNK_HEADER, Head, write_abort, write_close, write_open};

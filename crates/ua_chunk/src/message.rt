@@ -1,7 +1,7 @@
 //! The frames of messages.
 
 ghost use Rattle.std.specs.Prelude.{◌≡◌, ◌+◌, ◌≤◌, [], ◌++◌, length, take, drop, is_ok, if◌then◌else◌, OnErr, IfOk};
-ghost use Rattle.ua_chunk.specs.Numbers.{number_after};
+ghost use Rattle.ua_chunk.specs.Numbers.{most_part, number_after};
 ghost use Rattle.ua_chunk.specs.NumberLaws.{IsNumber};
 ghost use Rattle.ua_chunk.specs.Cutting.{carried, IsCut};
 ghost use Rattle.ua_chunk.specs.Cut.{part_count, fill};
@@ -32,7 +32,7 @@ pub fn chunk_count(len: u64, part_limit: u32) -> u64
 ///
 /// `NoMemory` where the growth of `out` is refused; a beginning of what is appended may then stand in it.
 fn put_cut<M: Emit>(message: &M, plan: &Plan, at: Place, out: &mut Vec<u8>) -> Result<u32, NoMemory>
-    requires least { plan.now.part_limit ≤ 1048552 }
+    requires most { plan.now.part_limit ≤ most_part }
     requires total { plan.now.total ≡ length (M.spelling message.now) }
     requires cut { IsCut plan.now.head.channel plan.now.head.token plan.now.head.request_id plan.now.part_limit plan.now.total plan.now.first at.number at.left at.room at.full (drop plan.now.start out.old.items) }
     requires none { carried at.full plan.now.part_limit (drop plan.now.start out.old.items) ≡ [] }
@@ -63,7 +63,7 @@ fn put_cut<M: Emit>(message: &M, plan: &Plan, at: Place, out: &mut Vec<u8>) -> R
 /// `NoMemory` where the growth of `out` is refused; a beginning of what is appended may then stand in it.
 fn put_frames<M: Emit>(message: &M, plan: &Plan, out: &mut Vec<u8>) -> Result<u32, NoMemory>
     requires some { 1 ≤ plan.now.part_limit }
-    requires least { plan.now.part_limit ≤ 1048552 }
+    requires most { plan.now.part_limit ≤ most_part }
     requires number { IsNumber plan.now.first }
     requires total { plan.now.total ≡ length (M.spelling message.now) }
     requires start { plan.now.start ≡ length out.old.items }
@@ -104,7 +104,7 @@ pub fn write_message<M: Emit>(
     out: &mut Vec<u8>,
 ) -> Result<(), NoMemory>
     requires some { 1 ≤ part_limit }
-    requires least { part_limit ≤ 1048552 }
+    requires most { part_limit ≤ most_part }
     ensures written { out.new.items ≡ (if is_ok result then out.old.items ++ message_frames head.now.channel head.now.token sequence.old 0 (fill head.now.request_id (M.spelling message.now) part_limit) else out.old.items) }
     ensures numbered { sequence.new ≡ (if is_ok result then number_after sequence.old (part_count (length (M.spelling message.now)) part_limit) else sequence.old) }
 {
@@ -126,7 +126,7 @@ pub fn write_measured<M: Emit>(
 ) -> Result<(), NoMemory>
     requires len { len ≡ length (M.spelling message.now) }
     requires some { 1 ≤ part_limit }
-    requires least { part_limit ≤ 1048552 }
+    requires most { part_limit ≤ most_part }
     ensures written { out.new.items ≡ (if is_ok result then out.old.items ++ message_frames head.now.channel head.now.token sequence.old 0 (fill head.now.request_id (M.spelling message.now) part_limit) else out.old.items) }
     ensures numbered { sequence.new ≡ (if is_ok result then number_after sequence.old (part_count (length (M.spelling message.now)) part_limit) else sequence.old) }
 {
@@ -165,7 +165,7 @@ pub fn write_chunks(
     out: &mut Vec<u8>,
 ) -> Result<(), NoMemory>
     requires some { 1 ≤ part_limit }
-    requires least { part_limit ≤ 1048552 }
+    requires most { part_limit ≤ most_part }
     ensures written { out.new.items ≡ (if is_ok result then out.old.items ++ message_frames head.now.channel head.now.token sequence.old 0 (fill head.now.request_id body.now part_limit) else out.old.items) }
     ensures numbered { sequence.new ≡ (if is_ok result then number_after sequence.old (part_count (length body.now) part_limit) else sequence.old) }
 {

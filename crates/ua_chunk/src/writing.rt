@@ -3,6 +3,7 @@
 ghost use Rattle.std.specs.Prelude.{◌≡◌, ◌+◌, ◌<◌, ◌≤◌, ◌^◌, ◌++◌, List, ℕ, length, take, is_ok, if◌then◌else◌, OnOk, OnErr};
 ghost use Rattle.std.specs.Int.{w32, to_le_bytes};
 ghost use Rattle.ua_frame.specs.Layout.{header};
+ghost use Rattle.ua_frame.specs.Sizes.{most_buffer};
 ghost use Rattle.ua_chunk.specs.Numbers.{number_after};
 ghost use Rattle.ua_chunk.specs.NumberLaws.{IsNumber};
 ghost use Rattle.ua_chunk.specs.Written.{open_frame, chunk_frame, close_frame, abort_frame};
@@ -12,7 +13,7 @@ use ua_frame::{HEADER, Kind, POLICY_NONE};
 use ua_value::NoMemory;
 
 /// Bytes before the body of a chunk's frame: type, flag, size, channel id, token id, sequence number and request id.
-pub(crate) const CHUNK_HEADER: u32 = 24;
+pub const CHUNK_HEADER: u32 = 24;
 
 /// Bytes of an OPN's fields before the body, by the policy None.
 const OPEN_FIELDS: u32 = 71;
@@ -48,6 +49,7 @@ fn put_number(number: u32, out: &mut Vec<u8>) -> Result<(), NoMemory>
 }
 
 /// What stands before the body of a chunk's frame, where the body has `len` bytes.
+#[inline(always)]
 pub(crate) fn chunk_header(kind: Kind, flag: u8, head: &Head, number: u32, len: u32) -> [u8; 24]
     requires { 24 + len < 2 ^ 32 }
     ensures { (body : List ℕ) → length body ≡ len → result ++ body ≡ chunk_frame kind flag head.now.channel head.now.token number head.now.request_id body }
@@ -74,7 +76,7 @@ fn put_chunk(
     body: &[u8],
     out: &mut Vec<u8>,
 ) -> Result<(), NoMemory>
-    requires { length body.now ≤ 1048576 }
+    requires { length body.now ≤ most_buffer }
     ensures ok { OnOk result (out.new.items ≡ out.old.items ++ chunk_frame kind flag head.now.channel head.now.token number head.now.request_id body.now) }
     ensures err { OnErr result (take (length out.old.items) out.new.items ≡ out.old.items) }
 {
@@ -92,7 +94,7 @@ fn put_open(
     body: &[u8],
     out: &mut Vec<u8>,
 ) -> Result<(), NoMemory>
-    requires { length body.now ≤ 1048576 }
+    requires { length body.now ≤ most_buffer }
     ensures ok { OnOk result (out.new.items ≡ out.old.items ++ open_frame channel number request_id body.now) }
     ensures err { OnErr result (take (length out.old.items) out.new.items ≡ out.old.items) }
 {
@@ -116,7 +118,7 @@ fn write_chunk(
     body: &[u8],
     out: &mut Vec<u8>,
 ) -> Result<(), NoMemory>
-    requires { length body.now ≤ 1048576 }
+    requires { length body.now ≤ most_buffer }
     ensures written { out.new.items ≡ (if is_ok result then out.old.items ++ chunk_frame kind flag head.now.channel head.now.token sequence.old head.now.request_id body.now else out.old.items) }
     ensures numbered { sequence.new ≡ (if is_ok result then number_after sequence.old 1 else sequence.old) }
     ensures range { IsNumber sequence.old }
@@ -147,7 +149,7 @@ pub fn write_open(
     sequence: &mut Sequence,
     out: &mut Vec<u8>,
 ) -> Result<(), NoMemory>
-    requires { length body.now ≤ 1048576 }
+    requires { length body.now ≤ most_buffer }
     ensures written { out.new.items ≡ (if is_ok result then out.old.items ++ open_frame channel sequence.old request_id body.now else out.old.items) }
     ensures numbered { sequence.new ≡ (if is_ok result then number_after sequence.old 1 else sequence.old) }
 {
@@ -177,7 +179,7 @@ pub fn write_close(
     sequence: &mut Sequence,
     out: &mut Vec<u8>,
 ) -> Result<(), NoMemory>
-    requires { length body.now ≤ 1048576 }
+    requires { length body.now ≤ most_buffer }
     ensures written { out.new.items ≡ (if is_ok result then out.old.items ++ close_frame channel token sequence.old request_id body.now else out.old.items) }
     ensures numbered { sequence.new ≡ (if is_ok result then number_after sequence.old 1 else sequence.old) }
 {

@@ -6,9 +6,9 @@ use Rattle.std.specs.Global.{Global, Vec}
 use Rattle.clap.specs.Words.{Text}
 use Rattle.ua_command.specs.Answer.{AnswersBy}
 use Rattle.ua_command.specs.Ask.{IsAskStatus, IsReachStop}
-use Rattle.ua_words.specs.Command.{AsksFor, IsUrlOf}
+use Rattle.ua_words.specs.Command.{AsksFor, IsUrlOf, IsWordsFault}
 use Rattle.ua_command.specs.Printed.{shape_of, PrintsIn, RefusesIn}
-use Rattle.ua_command.specs.Run.{Streams, IsDone, IsStop, IsOverLinks, RefusesSettingsOf, LeavesInput}
+use Rattle.ua_command.specs.Run.{Streams, ShowsTextOf, IsStopOf, IsDone, IsStop, IsOverLinks, RefusesSettingsOf, LeavesInput}
 use Rattle.ua_command.specs.Settings.{RefusesSource}
 use Rattle.ua_disco.specs.declared.fault.SettingsFault.{SettingsFault}
 use Rattle.ua_command.specs.Serve.{Serves, IsServeStop}
@@ -22,6 +22,8 @@ use Rattle.ua_words.specs.declared.capture.Capture.{Capture}
 use Rattle.ua_words.specs.declared.capture.Capture.TheVariants as captures
 use Rattle.ua_words.specs.declared.command.Command.{Command}
 use Rattle.ua_words.specs.declared.command.Command.TheVariants.{Answer, Value, Show, Serve, ServeMany, Ask, Check}
+use Rattle.ua_words.specs.declared.command.WordsFault.{WordsFault}
+use Rattle.ua_words.specs.declared.command.WordsFault.TheVariants.{Shown, Refused, NoMemory as WordsWithoutMemory}
 use Rattle.ua_command.specs.declared.stop.Stop.{Stop}
 use Rattle.ua_command.specs.declared.stop.Stop.TheVariants.{Words, Settings, Line, Reverse, File, Link, NoMemory}
 
@@ -63,6 +65,14 @@ pub check_done : (words : List Text) (source : Source) (address url : String Glo
     → IfOk r IsAskStatus → IfOk r (IsDone words s)
 check_done words source address url seconds s (Ok status) asked h = inl (Check source address url seconds, asked, h, tt)
 check_done words source address url seconds s (Err stop) asked h = h
+
+-- a text is shown
+pub text_done : (words : List Text) (fault : WordsFault) (s : Streams) (r : Result ℕ Stop) → IsWordsFault words fault → s.told' ≡ s.told
+    → IfOk r (λ status. (status ≡ 0) × ShowsTextOf fault s.printed s.printed') → IfOk r (IsDone words s)
+text_done words (Shown text) s (Ok status) asked untold h = inr (record { asked = asked; text = string_bytes text; printed = h.1; status_is = h.0 }, untold)
+text_done words (Refused text) s (Ok status) asked untold h = absurd h.1
+text_done words WordsWithoutMemory s (Ok status) asked untold h = absurd h.1
+text_done words fault s (Err stop) asked untold h = h
 
 -- an answer reads its input
 pub answer_reads : (words : List Text) (source : Source) (reverse : Bool) (old new : Option (List ℕ)) → AsksFor words (Answer source reverse) → LeavesInput words old new
@@ -153,6 +163,19 @@ pub link_stopped : (words : List Text) (question : Question) (locales filter : O
     → IfErr r IsReachStop → IfErr r (IsStop words left)
 link_stopped words question locales filter address url seconds form left (Ok status) asked h = h
 link_stopped words question locales filter address url seconds form left (Err stop) asked h = link_stop words (Ask question locales filter address url seconds form) left stop asked tt h
+
+-- what a fault of the words stops
+pub fault_stopped : (words : List Text) (fault : WordsFault) (left : Option (List ℕ)) (r : Result ℕ Stop) → IsWordsFault words fault → IfErr r (IsStopOf fault) → IfErr r (IsStop words left)
+fault_stopped words fault left (Ok status) asked h = h
+fault_stopped words (Shown text) left (Err stop) asked h = subst (IsStop words left) (sym h) (inr asked)
+fault_stopped words (Refused text) left (Err stop) asked h = subst (IsStop words left) (sym h) asked
+fault_stopped words WordsWithoutMemory left (Err stop) asked h = subst (IsStop words left) (sym h) tt
+
+-- no link does
+pub fault_unlinked : (fault : WordsFault) (r : Result ℕ Stop) → IfErr r (IsStopOf fault) → r ≡ Err Link → ⊥
+fault_unlinked (Shown text) r h linked = let e : Link ≡ File = subst (λ x. IfErr x (IsStopOf (Shown text))) linked h in absurd cc
+fault_unlinked (Refused text) r h linked = let e : Link ≡ Words text = subst (λ x. IfErr x (IsStopOf (Refused text))) linked h in absurd cc
+fault_unlinked WordsWithoutMemory r h linked = let e : Link ≡ NoMemory = subst (λ x. IfErr x (IsStopOf WordsWithoutMemory)) linked h in absurd cc
 
 -- ---- what a question is called by
 

@@ -1,5 +1,5 @@
 -- What a whole run of the command does.
-use Rattle.std.specs.Prelude.{◌≡◌, ◌⊎◌, ◌≤◌, ℕ, Bool, false, List, Option}
+use Rattle.std.specs.Prelude.{◌≡◌, ◌⊎◌, ◌≤◌, ℕ, Bool, false, List, Option, string_bytes}
 use Rattle.std.specs.Io.KnownBytes.{Appends}
 use Rattle.clap.specs.Words.{Text}
 use Rattle.ua_command.specs.Answer.{AnswersBy}
@@ -12,6 +12,8 @@ use Rattle.ua_command.specs.Show.{ShowsCapture}
 use Rattle.ua_command.specs.Stop.{status_of, IsAnswerStop, IsQuiet}
 use Rattle.ua_words.specs.declared.command.Command.{Command}
 use Rattle.ua_words.specs.declared.command.Command.TheVariants.{Answer, Value, Show, Serve, ServeMany, Ask, Check}
+use Rattle.ua_words.specs.declared.command.WordsFault.{WordsFault}
+use Rattle.ua_words.specs.declared.command.WordsFault.TheVariants.{Shown, Refused, NoMemory as WordsWithoutMemory}
 use Rattle.ua_command.specs.declared.stop.Stop.{Stop}
 use Rattle.ua_disco.specs.declared.fault.SettingsFault.{SettingsFault}
 use Rattle.ua_words.specs.declared.source.Source.{Source}
@@ -68,6 +70,18 @@ pub record ShowsText (words : List Text) (old new : Option (List ℕ)) (status :
 -- what the words ask for is done: a command, or a text, where nothing is told
 abbrev pub IsDone : List Text → Streams → ℕ → Type 0
 IsDone words s status = Done words s status ⊎ (ShowsText words s.printed s.printed' status × (s.told' ≡ s.told))
+
+-- the text that stands in a fault of the words is behind what the writer held
+abbrev pub ShowsTextOf : WordsFault → Option (List ℕ) → Option (List ℕ) → Type 0
+ShowsTextOf (Shown text) old new = Appends old new (string_bytes text)
+ShowsTextOf (Refused text) old new = ⊥
+ShowsTextOf WordsWithoutMemory old new = ⊥
+
+-- A text that the words ask for stops a command only where it can't be printed. Any other fault of the words does.
+abbrev pub IsStopOf : WordsFault → Stop → Type 0
+IsStopOf (Shown text) stop = stop ≡ File
+IsStopOf (Refused text) stop = stop ≡ Words text
+IsStopOf WordsWithoutMemory stop = stop ≡ NoMemory
 
 -- the command has settings, which are refused with this fault
 abbrev pub RefusesSettingsOf : Command → SettingsFault → Type 0

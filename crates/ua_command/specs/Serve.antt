@@ -1,5 +1,7 @@
 -- What stops the command `serve`, and its exit statuses.
-use Rattle.std.specs.Prelude.{◌≡◌, ◌⊎◌, ℕ, Bool}
+use Rattle.std.specs.Prelude.{◌≡◌, ◌⊎◌, ◌==◌, ℕ, Bool, if◌then◌else◌}
+use Rattle.ua_conn.specs.declared.outcome.End.{End}
+use Rattle.ua_conn.specs.declared.outcome.End.TheVariants as ends
 use Rattle.ua_disco.specs.Configuration.{Configuration}
 use Rattle.ua_conn.specs.declared.server.greeting.ReverseFault.{ReverseFault}
 use Rattle.ua_command.specs.Reverse.{CannotOpen}
@@ -12,6 +14,16 @@ use Rattle.ua_command.specs.declared.stop.Stop.TheVariants.{Words, Settings, Lin
 -- all was served, a link or a file failed, or memory ran out
 abbrev pub IsServeStatus : ℕ → Type 0
 IsServeStatus status = (status ≡ 0) ⊎ (status ≡ 3) ⊎ (status ≡ 4)
+
+-- the exit status after one more connection that ended so: 4 for want of memory, 3 for a failed link where nothing was before
+abbrev pub status_behind : ℕ → End → ℕ
+status_behind status ends.Closed = status
+status_behind status ends.InputEnded = status
+status_behind status ends.Truncated = status
+status_behind status (ends.Refused reason) = status
+status_behind status ends.LinkFailed = if status == 0 then 3 else status
+status_behind status ends.TurnsSpent = status
+status_behind status ends.NoMemory = 4
 
 -- A connection can't be accepted or made, or a line not be printed, or these settings do not let a server open the connection.
 abbrev pub IsServingStop : Bool → Configuration → Stop → Type 0

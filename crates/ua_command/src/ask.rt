@@ -21,7 +21,9 @@ use std::io::Write;
 use std::net::Net;
 use std::rt::Clock as HostClock;
 use std::time::Duration;
+use ua_chunk::CHUNK_HEADER;
 use ua_conn::{Answer, AnswerResult, AskFault, Client, ClientConfig, ClientFault};
+use ua_frame::LEAST_BUFFER;
 use ua_link::{ClientTurn, Clock, Link, pump_client, send_output};
 use ua_socket::{Deadline, Listener, connect};
 use ua_value::plumbing::let_go;
@@ -31,8 +33,8 @@ use ua_words::{Form, Question};
 /// The most reads until the answer.
 const MOST_READS: u32 = 4096;
 
-/// The bytes of a part of the request, which fits into the shortest frame that a server may take.
-const PART_LIMIT: u32 = 8168;
+/// The bytes of a part of the request, which fits into the least buffer that a server may have.
+const PART_LIMIT: u32 = LEAST_BUFFER - CHUNK_HEADER;
 
 /// The limits of the client; its tokens live an hour.
 const CONFIG: ClientConfig = ClientConfig {

@@ -2,7 +2,7 @@
 
 ghost use Rattle.std.specs.Prelude.{◌≡◌, map, Err, IfOk, IfErr, IfSome, OnOk};
 ghost use Rattle.std.specs.Io.KnownBytes.{Appends};
-ghost use Rattle.ua_command.specs.Run.{Streams, IsDone, IsStop, LeavesInput, Runs};
+ghost use Rattle.ua_command.specs.Run.{Streams, ShowsTextOf, IsStopOf, IsDone, IsStop, LeavesInput, Runs};
 ghost use Rattle.ua_command.specs.Stop.{status_of, stop_text, IsQuiet};
 ghost use Rattle.ua_command.specs.Why.{noted, IsKnown};
 ghost use Rattle.ua_command.specs.declared.why.Why.TheVariants.{File as file_failed, Output as output_failed};
@@ -115,6 +115,19 @@ fn shown<O: Write>(text: &str, output: &mut O) -> Result<u8, Stop>
     Ok(0)
 }
 
+/// Prints the text that words ask for which are no command, or says why they are none.
+fn say_fault<O: Write>(fault: WordsFault, output: &mut O) -> Result<u8, Stop>
+    ensures ok { IfOk result (λ status. (status ≡ 0) × ShowsTextOf fault (O.contents output.old) (O.contents output.new)) }
+    ensures err { IfErr result (IsStopOf fault) }
+    ensures quiet { IfErr result (λ stop. IsQuiet stop (O.contents output.old) (O.contents output.new)) }
+{
+    match fault {
+        WordsFault::Shown(text) => shown(text.as_str(), output),
+        WordsFault::Refused(text) => Err(Stop::Words(text)),
+        WordsFault::NoMemory => Err(Stop::NoMemory),
+    }
+}
+
 /// Does what the words ask for.
 fn done<R, I, O, E>(
     rt: &R,
@@ -138,9 +151,7 @@ where
 {
     let command = match command_of(rt.alloc(), words) {
         Ok(command) => command,
-        Err(WordsFault::Shown(text)) => return shown(text.as_str(), output),
-        Err(WordsFault::Refused(text)) => return Err(Stop::Words(text)),
-        Err(WordsFault::NoMemory) => return Err(Stop::NoMemory),
+        Err(fault) => return say_fault(fault, output),
     };
     match command {
         Command::Answer { source, reverse } => answer(rt, &source, reverse, input, output),

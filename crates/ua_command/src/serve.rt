@@ -1,7 +1,7 @@
 //! The command `serve`: serves connections over TCP, one after the other.
 
 ghost use Rattle.std.specs.Prelude.{◌≡◌, ◌<◌, true, Err, IsOk, IfOk, IfErr, MatchResult};
-ghost use Rattle.ua_command.specs.Serve.{IsServeStatus, IsServedStatus, IsServeStop, IsServingStop, Serves};
+ghost use Rattle.ua_command.specs.Serve.{status_behind, IsServeStatus, IsServedStatus, IsServeStop, IsServingStop, Serves};
 ghost use Rattle.ua_command.specs.Why.{IsKnown};
 
 pub mod many;
@@ -127,7 +127,8 @@ fn print_ended<O: Write, D: fmt::Display + Drop>(
 /// failed, else 0.
 pub fn status_with(status: u8, end: End) -> u8
     requires { IsServeStatus status }
-    ensures { IsServeStatus result }
+    ensures kind { IsServeStatus result }
+    ensures behind { result ≡ status_behind status end }
 {
     match end {
         End::NoMemory => 4,

@@ -3,6 +3,7 @@
 ghost use mathlib.Core.List.{IsPrefix};
 ghost use Rattle.std.specs.Prelude.{◌≡◌, ◌≤◌, ◌<◌, ◌⊎◌, true, false, length, Some, None, IfOk};
 ghost use Rattle.ua_frame.specs.Hello.{is_long};
+ghost use Rattle.ua_chunk.specs.Numbers.{greatest_number};
 ghost use Rattle.ua_conn.specs.BothEnds.{AnswersInOrder, Delivered, IsConfig, TokensLive, served};
 ghost use Rattle.ua_conn.specs.Conversing.{setup_of, told_of};
 ghost use Rattle.ua_conn.specs.Story.{Setup as Both, World, final};
@@ -39,7 +40,7 @@ pub fn converse(alloc: Global, setup: &Setup, schedule: &[Step]) -> Result<Story
     requires url { is_long setup.now.url.now ≡ false }
     requires reverse { setup.now.reverse ≡ true → reverse_fault setup.now.settings.now ≡ None }
     requires first_least { 1 ≤ setup.now.first_sequence }
-    requires first_most { setup.now.first_sequence ≤ 4294966272 }
+    requires first_most { setup.now.first_sequence ≤ greatest_number }
     ensures asked { IfOk result (λ story. story.asked.items ≡ (told_of setup.now schedule.now).asked) }
     ensures handed { IfOk result (λ story. story.handed.items ≡ (told_of setup.now schedule.now).handed) }
     ensures answers { IfOk result (λ story. story.answers.items ≡ (told_of setup.now schedule.now).answers) }

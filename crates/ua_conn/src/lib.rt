@@ -9,7 +9,6 @@ mod conversation;
 pub mod laws;
 mod limits;
 mod lists;
-mod moment;
 mod outcome;
 mod schedule;
 mod server;

@@ -3,11 +3,10 @@
 ghost use Rattle.std.specs.Prelude.{◌≡◌};
 ghost use Rattle.ua_conn.specs.server.Replies.{is_over as passes};
 
-/// Bytes of a chunk's header and numbers.
-pub(crate) const CHUNK_HEADER: u32 = 24;
+use ua_frame::LEAST_BUFFER;
 
 /// The greatest frame that an end takes before an Acknowledge. OPC 10000-6, 7.1.2.3.
-pub(crate) const GREATEST_FIRST_FRAME: u32 = 8192;
+pub(crate) const GREATEST_FIRST_FRAME: u32 = LEAST_BUFFER;
 
 /// Whether a limit of a Hello or an Acknowledge, of which 0 is none, is passed. OPC 10000-6, 7.1.2.3 and 7.1.2.4.
 pub(crate) fn is_over(limit: u32, n: u64) -> bool

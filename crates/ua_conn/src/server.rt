@@ -17,17 +17,16 @@ mod fault;
 mod greeting;
 mod hearing;
 
-use crate::moment::moment_of;
 use crate::outcome::End;
 use crate::server::connection::Connection;
 use crate::server::greeting::greeting_url;
-use crate::server::hearing::hear;
+use crate::server::hearing::take_frames;
 pub use conversation::{answer_all, answer_all_reverse, reply_all, reply_all_reverse};
 pub use greeting::{ReverseFault, can_open};
 use std::alloc::{AllocError, Global};
 use std::marker::Model;
 use ua_disco::Settings;
-use ua_frame::{FrameBuf, write_reverse_hello};
+use ua_frame::{FrameBuf, later, write_reverse_hello};
 use ua_service::Request;
 use ua_value::NoMemory;
 use ua_value::plumbing::let_go;
@@ -180,9 +179,9 @@ impl<'a> Server<'a> {
             return Err(FeedFault::Ended);
         }
         self.failed = true;
-        let now = self.moment.max(moment_of(now));
+        let now = later(self.moment, now);
         let mut requests = Vec::new(self.alloc);
-        let heard = hear(
+        let heard = take_frames(
             &mut self.connection,
             now,
             &mut self.buffer,

@@ -4,6 +4,7 @@ use Rattle.std.specs.List.{AllByRecursion}
 use Rattle.ua_value.specs.declared.localized.LocalizedText.{LocalizedText}
 use Rattle.ua_service.specs.declared.endpoint.UserTokenPolicy.{UserTokenPolicy}
 use Rattle.ua_frame.specs.declared.limits.Limits.{Limits}
+use Rattle.ua_frame.specs.Sizes.{least_buffer, most_buffer}
 use Rattle.ua_disco.specs.declared.application.Application.{Application}
 use Rattle.ua_disco.specs.declared.endpoint.Endpoint.{Endpoint}
 use Rattle.ua_disco.specs.Configuration.{Configuration}
@@ -51,10 +52,10 @@ pub record IsEndpoint (e : Endpoint) : Type 0 where
 
 -- the limits of a server, in bytes and in chunks
 pub record IsLimits (l : Limits) : Type 0 where
-  pub receive_least : 8192 ≤ l.receive
-  pub receive_most : l.receive ≤ 1048576
-  pub send_least : 8192 ≤ l.send
-  pub send_most : l.send ≤ 1048576
+  pub receive_least : least_buffer ≤ l.receive
+  pub receive_most : l.receive ≤ most_buffer
+  pub send_least : least_buffer ≤ l.send
+  pub send_most : l.send ≤ most_buffer
   pub message_least : 1 ≤ l.max_message
   pub message_most : l.max_message ≤ 16777216
   pub chunks_least : 1 ≤ l.max_chunks

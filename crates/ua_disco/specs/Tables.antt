@@ -6,6 +6,7 @@ use Rattle.toml.specs.Parse.{parse_document}
 use Rattle.ua_value.specs.declared.localized.LocalizedText.{LocalizedText}
 use Rattle.ua_service.specs.declared.endpoint.UserTokenPolicy.{UserTokenPolicy}
 use Rattle.ua_frame.specs.declared.limits.Limits.{Limits}
+use Rattle.ua_frame.specs.Sizes.{least_buffer, most_buffer}
 pub use Rattle.ua_frame.specs.Policy.{policy_none}
 use Rattle.ua_disco.specs.declared.application.Application.{Application}
 use Rattle.ua_disco.specs.declared.endpoint.Endpoint.{Endpoint}
@@ -42,14 +43,17 @@ array_key rule = defaulted (list_value rule) []
 
 -- ---- limits
 
-abbrev pub size_or : List ℕ → List ℕ → Members → Result ℕ Fault
-size_or = number_or 8192 1048576 65535
+abbrev pub default_limits : Limits
+default_limits = record { receive = 65535; send = 65535; max_message = 1048576; max_chunks = 64 }
+
+abbrev pub size_or : ℕ → List ℕ → List ℕ → Members → Result ℕ Fault
+size_or = number_or least_buffer most_buffer
 
 unfoldable pub sizes : List ℕ → Members → Result (ℕ × ℕ) Fault
-sizes prefix ms = next (size_or prefix (codes "receive") ms) (λ receive. next (size_or prefix (codes "send") ms) (λ send. Ok (receive, send)))
+sizes prefix ms = next (size_or default_limits.receive prefix (codes "receive") ms) (λ receive. next (size_or default_limits.send prefix (codes "send") ms) (λ send. Ok (receive, send)))
 
 unfoldable pub messages : List ℕ → Members → Result (ℕ × ℕ) Fault
-messages prefix ms = next (number_or 1 16777216 1048576 prefix (codes "max_message") ms) (λ bytes. next (number_or 1 65535 64 prefix (codes "max_chunks") ms) (λ chunks. Ok (bytes, chunks)))
+messages prefix ms = next (number_or 1 16777216 default_limits.max_message prefix (codes "max_message") ms) (λ bytes. next (number_or 1 65535 default_limits.max_chunks prefix (codes "max_chunks") ms) (λ chunks. Ok (bytes, chunks)))
 
 abbrev pub limit_keys : List (List ℕ)
 limit_keys = codes "receive" ∷ codes "send" ∷ codes "max_message" ∷ codes "max_chunks" ∷ []
@@ -59,9 +63,6 @@ limit_fields prefix ms = next (sizes prefix ms) (λ s. next (messages prefix ms)
 
 unfoldable pub limits_of : List ℕ → Members → Result Limits Fault
 limits_of prefix ms = next (keys_known limit_keys prefix ms) (λ _. limit_fields prefix ms)
-
-abbrev pub default_limits : Limits
-default_limits = record { receive = 65535; send = 65535; max_message = 1048576; max_chunks = 64 }
 
 -- ---- names
 

@@ -12,14 +12,13 @@ ghost use Rattle.ua_disco.specs.Answers.{answer_of, find_servers_answer, get_end
 use crate::answering::BAD_SERVICE_UNSUPPORTED;
 use crate::found::{FoundEndpoints, FoundServers, endpoint_count, endpoints_len};
 use crate::settings::Settings;
-use crate::then::Then;
 use std::marker::Model;
 use ua_choice::Filter;
 use ua_service::encoding::{FIND_SERVERS_RESPONSE, GET_ENDPOINTS_RESPONSE, SERVICE_FAULT};
 use ua_service::{
     FindServersRequest, GetEndpointsRequest, OtherRequest, Request, RequestHeader, response_head,
 };
-use ua_value::plumbing::{Parts, Raw};
+use ua_value::plumbing::{Parts, Raw, Then};
 use ua_value::{Emit, NoMemory, Sink};
 
 /// What a server with these settings says to a request at a moment, lent: it is put from the settings and the request,

@@ -6,6 +6,7 @@ ghost use Rattle.ua_disco.specs.Bounds.{IsLimits};
 ghost use Rattle.ua_disco.specs.Faults.{Gives};
 ghost use Rattle.ua_disco.specs.Paths.{path_text};
 ghost use Rattle.ua_disco.specs.Reading.{table_value, defaulted};
+ghost use Rattle.ua_frame.specs.Sizes.{least_buffer, most_buffer};
 ghost use Rattle.ua_disco.specs.Tables.{sizes, messages, limit_fields, limits_of, limits_key, default_limits};
 
 use crate::fault::SettingsFault;
@@ -13,16 +14,38 @@ use crate::path::{Path, prefix_of, top};
 use crate::reading::{FromValue, check_keys, is_wrong_kind, read_integer, read_optional};
 use std::alloc::Global;
 use toml::{Table, Value};
-use ua_frame::Limits;
+use ua_frame::{LEAST_BUFFER, Limits, MOST_BUFFER};
+
+/// The limits where settings name none.
+const DEFAULT_LIMITS: Limits = Limits {
+    receive: 65_535,
+    send: 65_535,
+    max_message: 1_048_576,
+    max_chunks: 64,
+};
 
 #[tactic(auto, unfolding(crate::specs::Tables::sizes))]
 fn read_sizes(alloc: Global, table: &Table, prefix: &Path<'_>) -> Result<(u32, u32), SettingsFault>
     ensures gives { Gives (λ r. (r.0, r.1)) (sizes (path_text prefix.now) (table_view table.now)) result }
-    ensures kept { IfOk result (λ r. (8192 ≤ r.0) × (r.0 ≤ 1048576) × (8192 ≤ r.1) × (r.1 ≤ 1048576)) }
+    ensures kept { IfOk result (λ r. (least_buffer ≤ r.0) × (r.0 ≤ most_buffer) × (least_buffer ≤ r.1) × (r.1 ≤ most_buffer)) }
 {
-    let range = (8192, 1_048_576);
-    let receive = read_integer(alloc, table, prefix, "receive", range, Some(65_535))?;
-    let send = read_integer(alloc, table, prefix, "send", range, Some(65_535))?;
+    let range = (LEAST_BUFFER, MOST_BUFFER);
+    let receive = read_integer(
+        alloc,
+        table,
+        prefix,
+        "receive",
+        range,
+        Some(DEFAULT_LIMITS.receive),
+    )?;
+    let send = read_integer(
+        alloc,
+        table,
+        prefix,
+        "send",
+        range,
+        Some(DEFAULT_LIMITS.send),
+    )?;
     Ok((receive, send))
 }
 
@@ -36,8 +59,22 @@ fn read_messages(
     ensures kept { IfOk result (λ r. (1 ≤ r.0) × (r.0 ≤ 16777216) × (1 ≤ r.1) × (r.1 ≤ 65535)) }
 {
     let bytes = (1, 16_777_216);
-    let max_message = read_integer(alloc, table, prefix, "max_message", bytes, Some(1_048_576))?;
-    let max_chunks = read_integer(alloc, table, prefix, "max_chunks", (1, 65_535), Some(64))?;
+    let max_message = read_integer(
+        alloc,
+        table,
+        prefix,
+        "max_message",
+        bytes,
+        Some(DEFAULT_LIMITS.max_message),
+    )?;
+    let max_chunks = read_integer(
+        alloc,
+        table,
+        prefix,
+        "max_chunks",
+        (1, 65_535),
+        Some(DEFAULT_LIMITS.max_chunks),
+    )?;
     Ok((max_message, max_chunks))
 }
 
@@ -98,12 +135,7 @@ fn read_limits_or_default(
 {
     match read_optional::<Limits>(alloc, table, prefix, key) {
         Ok(Some(limits)) => Ok(limits),
-        Ok(None) => Ok(Limits {
-            receive: 65_535,
-            send: 65_535,
-            max_message: 1_048_576,
-            max_chunks: 64,
-        }),
+        Ok(None) => Ok(DEFAULT_LIMITS),
         Err(fault) => Err(fault),
     }
 }

@@ -9,10 +9,9 @@ ghost use Rattle.ua_disco.specs.Spelled.{before_name, behind_name, behind_server
 
 use crate::application::Application;
 use crate::endpoint::Endpoint;
-use crate::then::Then;
 use std::alloc::Global;
 use std::marker::Model;
-use ua_value::plumbing::{Parts, let_go};
+use ua_value::plumbing::{Parts, Then, let_go};
 use ua_value::{LocalizedText, NoMemory, Sink, Wire};
 
 /// An application, and what stands before and behind its name in its description (OPC 10000-4, 7.2): these bytes are the

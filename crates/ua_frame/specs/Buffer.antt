@@ -1,5 +1,6 @@
 -- Input that came and is not used yet.
 use Rattle.std.specs.Prelude.{◌≡◌, ℕ, ◌≤◌, ◌<◌, List, [], length, None}
+use Rattle.ua_frame.specs.Sizes.{least_buffer, most_buffer}
 use Rattle.ua_frame.specs.Streams.{size_of}
 use Rattle.ua_frame.specs.HeaderRows.{header_fault}
 
@@ -27,7 +28,7 @@ pub record IsRoom (start filled capacity reserved : ℕ) (known alone : Type 0) 
   pub begins : start ≤ filled
   pub fits : filled ≤ capacity
   pub there : capacity ≤ reserved
-  pub least : 8192 ≤ capacity
-  pub most : capacity ≤ 1048576
+  pub least : least_buffer ≤ capacity
+  pub most : capacity ≤ most_buffer
   pub awaited : known
   pub all : alone

@@ -16,6 +16,7 @@ use Rattle.ua_frame.specs.declared.reverse_hello.ReverseHello.{ReverseHello}
 use Rattle.ua_frame.specs.declared.limits.Limits.{Limits}
 use Rattle.ua_frame.specs.declared.kind.Kind.TheVariants as kinds
 use Rattle.ua_frame.specs.Layout.{frame_bytes}
+use Rattle.ua_frame.specs.Sizes.{least_buffer}
 use Rattle.ua_frame.specs.Rows.{Row, first_row}
 
 -- ---- the fields of each, in order
@@ -137,9 +138,9 @@ abbrev pub is_long : Option (List ℕ) → Bool
 is_long None = false
 is_long (Some url) = nat_lt 4095 (length url)
 
--- an end needs buffers of at least 8192 bytes
+-- a buffer of the client is smaller than the least one
 abbrev pub is_small : Hello → Bool
-is_small h = nat_lt h.receive 8192 || nat_lt h.send 8192
+is_small h = nat_lt h.receive least_buffer || nat_lt h.send least_buffer
 
 -- the refusals of a Hello: its layout, its url, its buffers
 abbrev pub hello_rows : Option Hello → List Row
@@ -164,9 +165,9 @@ answered (Some status) a = Err status
 abbrev pub hello_answer : Limits → Hello → Result Ack ℕ
 hello_answer limits h = answered (first_row (hello_rows (Some h))) (negotiated limits h)
 
--- A client takes an Acknowledge with two sizes of at least 8192 bytes, and at most those of its Hello. OPC 10000-6, 7.1.2.4.
+-- A client takes an Acknowledge with two sizes that are at least the least buffer, and at most those of its Hello. OPC 10000-6, 7.1.2.4.
 abbrev pub is_size : ℕ → ℕ → Bool
-is_size most n = nat_le 8192 n && nat_le n most
+is_size most n = nat_le least_buffer n && nat_le n most
 
 abbrev pub is_acceptable : Hello → Ack → Bool
 is_acceptable h ack = is_size h.send ack.receive && is_size h.receive ack.send

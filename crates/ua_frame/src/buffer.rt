@@ -4,6 +4,7 @@ ghost use Rattle.std.specs.Prelude.{◌≡◌, ◌==◌, ℕ, ◌+◌, ◌-◌, 
 ghost use Rattle.ua_frame.specs.Layout.{size_of, IsFrame, IsFrameOf, frame_bytes};
 ghost use Rattle.ua_frame.specs.HeaderRows.{header_fault};
 ghost use Rattle.ua_frame.specs.Buffer.{empty_buffer};
+ghost use Rattle.ua_frame.specs.Sizes.{least_buffer, most_buffer};
 
 use crate::frame::{Frame, HEADER, frame_at, size_in};
 use std::alloc::Global;
@@ -44,8 +45,8 @@ impl FrameBuf {
     ///
     /// `NoMemory` where the room is refused.
     pub fn with_capacity(alloc: Global, capacity: usize) -> Result<FrameBuf, NoMemory>
-        requires least { 8192 ≤ capacity }
-        requires most { capacity ≤ 1048576 }
+        requires least { least_buffer ≤ capacity }
+        requires most { capacity ≤ most_buffer }
         ensures { IfOk result (λ b. b ≡ empty_buffer capacity) }
     {
         let bytes = Vec::with_capacity(alloc, capacity)?;

@@ -86,6 +86,7 @@ fn judged(kind: Option<Kind>, flag: u8, size: u32, limit: u32) -> Result<Kind, u
     Ok(kind)
 }
 
+#[inline(always)]
 #[tactic(auto, unfolding(crate::specs::Layout::kind_of))]
 fn kind_in(bytes: &[u8]) -> Option<Kind>
     requires { 8 ≤ length bytes.now }

@@ -25,18 +25,20 @@ pub enum Kind {
 
 impl Kind {
     /// The type that these three bytes name.
+    #[inline(always)]
     #[tactic(auto, unfolding(crate::specs::Layout::kind_of))]
     pub(crate) fn named(name: &[u8]) -> Option<Kind>
         requires { length name.now ≡ 3 }
         ensures { result ≡ kind_of name.now }
     {
+        // Most frames are chunks of messages.
         match name {
+            b"MSG" => Some(Kind::Message),
             b"HEL" => Some(Kind::Hello),
             b"ACK" => Some(Kind::Acknowledge),
             b"ERR" => Some(Kind::Error),
             b"RHE" => Some(Kind::ReverseHello),
             b"OPN" => Some(Kind::Open),
-            b"MSG" => Some(Kind::Message),
             b"CLO" => Some(Kind::Close),
             _ => None,
         }

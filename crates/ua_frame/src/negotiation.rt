@@ -6,18 +6,13 @@ ghost use Rattle.ua_frame.specs.Hello.{is_long, hello_rows, negotiated, hello_an
 
 use crate::acknowledge::Ack;
 use crate::hello::Hello;
-use crate::limits::Limits;
+use crate::limits::{LEAST_BUFFER, Limits};
 use crate::status::{BAD_TCP_ENDPOINT_URL_INVALID, BAD_TCP_NOT_ENOUGH_RESOURCES};
 use ua_value::UaString;
+use ua_value::plumbing::LONGEST_URL;
 
 /// The version of the connection protocol that is spoken (OPC 10000-6, 7.1.2.3).
 pub const VERSION: u32 = 0;
-
-/// Bytes of the longest url.
-const LONGEST_URL: usize = 4095;
-
-/// Bytes of the smallest buffer that an end may have.
-const SMALLEST_BUFFER: u32 = 8192;
 
 /// Whether a url is longer than an end takes: over 4095 bytes. A null one is not. OPC 10000-6, 7.1.2.3 and 7.1.2.6.
 pub fn is_long_url(url: &UaString) -> bool
@@ -48,7 +43,7 @@ pub fn negotiate(hello: &Hello, limits: &Limits) -> Result<Ack, u32>
     if is_long_url(&hello.url) {
         return Err(BAD_TCP_ENDPOINT_URL_INVALID);
     }
-    if hello.receive < SMALLEST_BUFFER || hello.send < SMALLEST_BUFFER {
+    if hello.receive < LEAST_BUFFER || hello.send < LEAST_BUFFER {
         return Err(BAD_TCP_NOT_ENOUGH_RESOURCES);
     }
     Ok(Ack {
@@ -64,7 +59,7 @@ pub fn negotiate(hello: &Hello, limits: &Limits) -> Result<Ack, u32>
 fn is_size(most: u32, size: u32) -> bool
     ensures { result ≡ is_size most size }
 {
-    SMALLEST_BUFFER <= size && size <= most
+    LEAST_BUFFER <= size && size <= most
 }
 
 /// Whether a client goes on with what a server answered to its Hello: both sizes are at least 8192 bytes, and at most

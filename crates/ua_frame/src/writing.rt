@@ -3,15 +3,13 @@
 ghost use Rattle.std.specs.Prelude.{◌≡◌, ◌+◌, ◌<◌, ◌^◌, ◌++◌, length, take, is_ok, if◌then◌else◌, OnOk, OnErr};
 ghost use Rattle.ua_frame.specs.Layout.{frame_bytes};
 
+use crate::frame::HEADER;
 use crate::kind::Kind;
 use ua_value::plumbing::Parts;
 use ua_value::{NoMemory, Sink};
 
 /// The flag of every frame that is no message's chunk.
 const FINAL: u8 = b'F';
-
-/// Bytes of a frame's header.
-const HEADER: u32 = 8;
 
 /// Appends a frame, or where memory runs out a beginning of it.
 fn put_frame<P: Parts>(kind: Kind, len: u32, fields: &P, out: &mut Vec<u8>) -> Result<(), NoMemory>

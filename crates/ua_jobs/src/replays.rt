@@ -90,7 +90,7 @@ impl<'a> Work<Digits> for Making<'a> {
 }
 
 /// Makes a script, and answers it by the settings.
-fn answer<R: Files + Net + Clock + AllocGlobal>(
+fn answer_script<R: Files + Net + Clock + AllocGlobal>(
     rt: &R,
     settings: &str,
     pool: &Pool,
@@ -150,7 +150,7 @@ pub fn replay<R: Files + Net + Clock + AllocGlobal>(
 ) -> Result<(), Failed> {
     for _ in 0..rounds {
         for (settings, script) in &SCRIPTS {
-            answer(rt, settings, pool, draw, *script, digest)?;
+            answer_script(rt, settings, pool, draw, *script, digest)?;
         }
     }
     Ok(())

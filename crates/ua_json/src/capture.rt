@@ -13,9 +13,6 @@ use ua_frame::{Frame, frame_at};
 use ua_print::LONGEST;
 use ua_value::NoMemory;
 
-/// Bytes of a frame's header.
-const HEADER: usize = 8;
-
 /// The lines so far, and the bodies of the MSG frames since the last that ended a message, where they lie.
 #[derive(Drop)]
 struct Lines<'a> {
@@ -102,7 +99,7 @@ fn add_known<'a>(
 ) -> Result<Front, NoMemory>
     ensures { IfOk result (AddsFrame frame.now (string_bytes lines.old.text) (string_bytes lines.new.text)) }
 {
-    let size = HEADER + frame.fields().len();
+    let size = frame.len() as usize;
     match content_of(alloc, frame) {
         Ok(content) => match add_content(alloc, lines, offset, size, &content) {
             Ok(()) => Ok(Front::Frame(size)),

@@ -22,6 +22,7 @@ use std::alloc::{AllocError, Global};
 use std::marker::Model;
 use ua_conn::{End, Server};
 use ua_disco::Settings;
+use ua_frame::{later, moment_at};
 use ua_value::NoMemory;
 
 /// The most bytes that may be owed to a client while it is still read.
@@ -78,13 +79,6 @@ impl ReadyTurn {
     {
         has_moved(self.cut, self.written)
     }
-}
-
-/// A clock's moment, where one before 0 counts as 0.
-fn counted(now: i64) -> u64
-    ensures { result ≡ moment_of now }
-{
-    if now < 0 { 0 } else { now as u64 }
 }
 
 /// The end that a read brings which came to this: without one the last read is the end.
@@ -157,7 +151,7 @@ impl<'a> ServerConnection<'a> {
             c ≡ record { server = record { site = site; held = held site []; failed = false }; owed = []; ending = None; left = turns; latest = moment_of now; active = moment_of now }) }
     {
         let server = Server::new(alloc, settings, id)?;
-        let begun = counted(now);
+        let begun = moment_at(now);
         Ok(ServerConnection {
             server,
             said: Vec::new(alloc),
@@ -173,7 +167,7 @@ impl<'a> ServerConnection<'a> {
     pub fn patience_left(&self, now: i64, patience: u64) -> u64
         ensures { result ≡ patience - (max self.now.latest (moment_of now) - self.now.active) }
     {
-        let quiet = self.latest.max(counted(now)) - self.active;
+        let quiet = later(self.latest, now) - self.active;
         patience.saturating_sub(quiet)
     }
 
@@ -181,7 +175,7 @@ impl<'a> ServerConnection<'a> {
     fn note(&mut self, moment: i64)
         ensures { self.new ≡ record self.old { latest = max self.old.latest (moment_of moment) } }
     {
-        self.latest = self.latest.max(counted(moment));
+        self.latest = later(self.latest, moment);
     }
 
     /// What the server said and is not out yet.
@@ -297,7 +291,7 @@ impl<'a> ServerConnection<'a> {
     }
 
     /// The second half of a turn: one write, and whether the connection is over.
-    fn answer<L: ReadyLink>(
+    fn finish_turn<L: ReadyLink>(
         &mut self,
         link: &mut L,
         moment: i64,
@@ -366,11 +360,11 @@ impl<'a> ServerConnection<'a> {
             return ReadyTurn::ended(moment, None, End::LinkFailed);
         };
         let Some(n) = came else {
-            return self.answer(link, moment, None, patience);
+            return self.finish_turn(link, moment, None, patience);
         };
         let cut = Some((moment, n));
         match self.take(moment, &room[..n]) {
-            Ok(()) => self.answer(link, moment, cut, patience),
+            Ok(()) => self.finish_turn(link, moment, cut, patience),
             Err(_) => ReadyTurn::ended(moment, cut, End::NoMemory),
         }
     }

@@ -58,7 +58,13 @@ pub(crate) fn ending_after(server: &Server, bytes: &[u8], came: Option<End>) -> 
 }
 
 /// Gives the bytes of a read to the server, and sends what it says to them.
-fn answer<L: Link>(alloc: Global, server: &mut Server, link: &mut L, now: i64, bytes: &[u8]) -> Turn
+fn answer_read<L: Link>(
+    alloc: Global,
+    server: &mut Server,
+    link: &mut L,
+    now: i64,
+    bytes: &[u8],
+) -> Turn
     requires going { server.old.failed ≡ false }
     requires countable { L.fault_count link.old < 2 ^ 64 - 1 }
     ensures cut { result.cut ≡ Some (now, length bytes.now) }
@@ -133,5 +139,5 @@ pub(crate) fn turn_in<L: Link, C: Clock>(
         return Turn::ended(alloc, None, End::LinkFailed);
     };
     let now = clock.now();
-    answer(alloc, server, link, now, &room[..n])
+    answer_read(alloc, server, link, now, &room[..n])
 }

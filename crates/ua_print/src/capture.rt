@@ -16,9 +16,6 @@ use ua_value::NoMemory;
 /// Bytes of the longest frame that is shown.
 pub const LONGEST: u32 = 1_048_576;
 
-/// Bytes of a frame's header.
-const HEADER: usize = 8;
-
 /// The lines so far, and the bodies of the MSG frames since the last that ended a message, where they lie.
 #[derive(Drop)]
 struct Lines<'a> {
@@ -99,7 +96,7 @@ fn add_known<'a>(
 ) -> Result<Front, NoMemory>
     ensures { IfOk result (AddsFrame offset frame.now lines.old lines.new) }
 {
-    let size = HEADER + frame.fields().len();
+    let size = frame.len() as usize;
     match content_of(alloc, frame) {
         Ok(content) => match add_content(alloc, lines, offset, size, &content) {
             Ok(()) => Ok(Front::Frame(size)),

@@ -116,6 +116,22 @@ impl<'a, T: Wire, P: Parts> Parts for (&'a T, P) {
     }
 }
 
+/// Fields that are put, and others that are put behind them.
+#[derive(Clone, Copy, Drop)]
+pub struct Then<A, B> {
+    pub first: A,
+    pub behind: B,
+}
+
+impl<A: Parts, B: Parts> Parts for Then<A, B> {
+    ghost spelling = { λ p. A.spelling p.first ++ B.spelling p.behind };
+
+    fn emit_parts<S: Sink>(&self, out: &mut S) -> Result<(), NoMemory> {
+        self.first.emit_parts(out)?;
+        self.behind.emit_parts(out)
+    }
+}
+
 /// Copies of two values.
 ///
 /// # Errors

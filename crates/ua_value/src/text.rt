@@ -34,6 +34,9 @@ impl Model for UaString {
     ghost invariant = { λ s. IfSome s.text (λ t. string_len t ≤ longest) };
 }
 
+/// Bytes of the longest url that an end of a connection takes. OPC 10000-6, 7.1.2.3 and 7.1.2.6.
+pub const LONGEST_URL: usize = 4095;
+
 /// Bytes from which on a text is tested 64 at a time.
 const LONG: usize = 64;
 

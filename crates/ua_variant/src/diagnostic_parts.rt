@@ -4,9 +4,9 @@ ghost use Rattle.std.specs.Prelude.{◌≡◌, ◌≤◌, ◌<◌, ◌+◌, ◌+
 ghost use Rattle.ua_value.specs.Format.{AppendsPart, Gives, input_limit};
 ghost use Rattle.ua_variant.specs.DiagnosticParts.{diagnostic_parts, of_row};
 
-use crate::flagged::{Kept, Then, UnlessNull, bit, copy_kept, kept_len, read_kept, text_len};
+use crate::flagged::{Kept, UnlessNull, bit, copy_kept, kept_len, read_kept, text_len};
 use std::alloc::Global;
-use ua_value::plumbing::{Parts, read_part};
+use ua_value::plumbing::{Parts, Then, read_part};
 use ua_value::{NoMemory, ReadFault, Sink, StatusCode, UaString, Wire};
 
 /// The parts of a DiagnosticInfo beside the inner one, in the order of their bytes
@@ -109,21 +109,21 @@ impl DiagnosticParts {
             first: Kept {
                 part: &self.symbolic_id,
             },
-            others: Then {
+            behind: Then {
                 first: Kept {
                     part: &self.namespace_uri,
                 },
-                others: Then {
+                behind: Then {
                     first: Kept { part: &self.locale },
-                    others: Then {
+                    behind: Then {
                         first: Kept {
                             part: &self.localized_text,
                         },
-                        others: Then {
+                        behind: Then {
                             first: UnlessNull {
                                 text: &self.additional_info,
                             },
-                            others: Kept {
+                            behind: Kept {
                                 part: &self.inner_status,
                             },
                         },

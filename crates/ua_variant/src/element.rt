@@ -99,12 +99,20 @@ impl Element {
     }
 }
 
+/// Promises that it is a value of its format. It does nothing.
+#[inline(always)]
+fn promise_value<T: Wire>(value: &T)
+    ensures { T.format.IsValue value.now }
+{
+    let _len = value.len();
+}
+
 /// The depth of a plain value.
 fn flat<T: Wire>(value: &T) -> u8
     ensures zero { result ≡ 0 }
     ensures value { T.format.IsValue value.now }
 {
-    let _len = value.len();
+    promise_value(value);
     0
 }
 

@@ -101,19 +101,3 @@ impl<'a> Parts for UnlessNull<'a> {
         }
     }
 }
-
-/// The first and then the others.
-#[derive(Drop)]
-pub(crate) struct Then<A, B> {
-    pub(crate) first: A,
-    pub(crate) others: B,
-}
-
-impl<A: Parts, B: Parts> Parts for Then<A, B> {
-    ghost spelling = { λ p. A.spelling p.first ++ B.spelling p.others };
-
-    fn emit_parts<S: Sink>(&self, out: &mut S) -> Result<(), NoMemory> {
-        self.first.emit_parts(out)?;
-        self.others.emit_parts(out)
-    }
-}

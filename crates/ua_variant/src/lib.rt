@@ -15,7 +15,6 @@ mod from_plain;
 mod leaf;
 mod leaves;
 mod making;
-mod number;
 mod parts;
 mod picoseconds;
 mod reading;

@@ -1,27 +1,26 @@
-//! Reading variants and data values from the front of bytes, to a depth.
+//! Reading variants from the front of bytes, to a depth.
 
-ghost use Rattle.std.specs.Prelude.{◌≡◌, ◌≤◌, ◌<◌, ◌^◌, suc, length, map, true, false, Err, IfOk};
+ghost use Rattle.std.specs.Prelude.{◌≡◌, ◌≤◌, ◌<◌, ◌^◌, suc, length, map, true, Err, IfOk};
 ghost use Rattle.ua_value.specs.Format.{Gives, input_limit};
 ghost use Rattle.ua_value.specs.Number.{unsigned};
 ghost use Rattle.ua_value.specs.Array.{items_at, CountsMore};
 ghost use Rattle.ua_value.specs.Localized.{has};
 ghost use Rattle.std.specs.Int.{w32};
 ghost use Rattle.ua_value.specs.Sequence.{made};
-ghost use Rattle.ua_variant.specs.Kinds.{variant_kind, data_kind, info_kind, kind_number};
-ghost use Rattle.ua_variant.specs.Values.{deepest, count_of, data_value, without};
+ghost use Rattle.ua_variant.specs.Kinds.{variant_kind, info_kind, kind_number};
+ghost use Rattle.ua_variant.specs.Values.{deepest, count_of};
 ghost use Rattle.ua_variant.specs.Chains.{list};
-ghost use Rattle.ua_variant.specs.Reading.{one_of, leaves, singles, arrays, behind_head, behind_mask, within, data_within, elements_within, VariantCountsMore, DataCountsMore};
-ghost use Rattle.ua_variant.specs.Stamps.{stamps};
+ghost use Rattle.ua_variant.specs.Reading.{one_of, leaves, singles, arrays, behind_head, within, elements_within, VariantCountsMore};
 ghost use Rattle.ua_variant.specs.View.{kind_of, element, items_in, body_of};
+
+pub(crate) mod data;
 
 use crate::diagnostic::DiagnosticInfo;
 use crate::element::leaf_front;
-use crate::emptying::drop_aside;
 use crate::leaves::each_leaf;
-use crate::number::{number_ahead, number_box, number_data};
+use crate::reading::data::{data_element, each_data};
 use crate::shape::shape_front;
-use crate::stamps::Stamps;
-use crate::variant::{Body, DataValue, Element, Elements, Variant};
+use crate::variant::{Body, Element, Elements, Variant};
 use std::alloc::Global;
 use ua_kind::{DEEPEST, Kind};
 use ua_value::ReadFault;
@@ -248,35 +247,6 @@ fn each_within(
     Ok((items, rest))
 }
 
-/// As many DataValues as the count says: a loop of their own, in which each goes from its reader into the list. The short
-/// way for a number has a large frame where a compiler puts its readers in line, so only an outermost list goes here: that
-/// frame then stands on the stack once, and not at each level.
-#[cycle(read)]
-#[inline(never)]
-fn each_data(
-    alloc: Global,
-    count: u32,
-    input: &[u8],
-    allowance: u8,
-) -> Result<(Vec<Element>, &[u8]), ReadFault>
-    requires short { length input.now ≤ input_limit }
-    requires allowed { allowance < deepest }
-    ensures gives { Gives (λ x. (map element x.0.items, x.1.now)) result (items_at (elements_within allowance data_kind) count input.now) }
-    ensures shorter { IfOk result (λ x. length x.1.now ≤ length input.now) }
-    ensures counted { IfOk result (λ x. length x.0.items ≡ count) }
-{
-    let mut items = Vec::with_capacity(alloc, count as usize)?;
-    let mut rest = input;
-    for _ in 0..count {
-        // As above, `push` would copy the element once more.
-        items.reserve(1)?;
-        let (item, after) = boxed_within(alloc, rest, allowance)?;
-        items.push_reserved(Element::DataValue(item));
-        rest = after;
-    }
-    Ok((items, rest))
-}
-
 /// A value of the kind that is at most so deep.
 #[cycle(read)]
 fn element_within(
@@ -298,8 +268,8 @@ fn element_within(
     }
 }
 
-/// A Variant as an element. It stands by itself, as the two below do, so that no element fills the room for another kind
-/// with zeros.
+/// A Variant as an element. It stands by itself, as `info_element` and `data_element` do, so that no element fills the room
+/// for another kind with zeros.
 #[cycle(read)]
 #[inline(never)]
 fn variant_element(
@@ -316,38 +286,6 @@ fn variant_element(
     Ok((Element::Variant(Box::new(alloc, value)?), rest))
 }
 
-/// The DataValue at the front in a box.
-#[cycle(read)]
-fn boxed_within(
-    alloc: Global,
-    input: &[u8],
-    allowance: u8,
-) -> Result<(Box<DataValue>, &[u8]), ReadFault>
-    requires short { length input.now ≤ input_limit }
-    requires allowed { allowance < deepest }
-    ensures gives { Gives (λ x. (data_value x.0.value, x.1.now)) result ((elements_within allowance data_kind).front input.now) }
-    ensures shorter { IfOk result (λ x. length x.1.now ≤ length input.now) }
-{
-    if let Some((mask, kind, rest)) = number_ahead(input, allowance) {
-        return number_box(alloc, mask, kind, rest);
-    }
-    let (value, rest) = data_within(alloc, input, allowance)?;
-    Ok((Box::new(alloc, value)?, rest))
-}
-
-/// A DataValue as an element.
-#[cycle(read)]
-#[inline(never)]
-fn data_element(alloc: Global, input: &[u8], allowance: u8) -> Result<(Element, &[u8]), ReadFault>
-    requires short { length input.now ≤ input_limit }
-    requires allowed { allowance < deepest }
-    ensures gives { Gives (λ x. (element x.0, x.1.now)) result ((elements_within allowance data_kind).front input.now) }
-    ensures shorter { IfOk result (λ x. length x.1.now ≤ length input.now) }
-{
-    let (value, rest) = data_within(alloc, input, allowance)?;
-    Ok((Element::DataValue(Box::new(alloc, value)?), rest))
-}
-
 /// A DiagnosticInfo as an element.
 #[inline(never)]
 fn info_element(alloc: Global, input: &[u8], allowance: u8) -> Result<(Element, &[u8]), ReadFault>
@@ -358,86 +296,4 @@ fn info_element(alloc: Global, input: &[u8], allowance: u8) -> Result<(Element, 
 {
     let (value, rest) = DiagnosticInfo::front_within(alloc, input, allowance)?;
     Ok((Element::DiagnosticInfo(value), rest))
-}
-
-/// The DataValue at the front that is at most so deep, and what follows it.
-pub(crate) fn data_front(
-    alloc: Global,
-    input: &[u8],
-    allowance: u8,
-) -> Result<(DataValue, &[u8]), ReadFault>
-    requires short { length input.now ≤ input_limit }
-    requires allowed { allowance ≤ deepest }
-    ensures gives { Gives (λ x. (x.0, x.1.now)) result ((data_within allowance).front input.now) }
-    ensures shorter { IfOk result (λ x. length x.1.now ≤ length input.now) }
-    ensures counted { DataCountsMore input.now → result ≡ Err ReadFault.Refused }
-{
-    if let Some((mask, kind, rest)) = number_ahead(input, allowance) {
-        return number_data(alloc, mask, kind, rest);
-    }
-    data_within(alloc, input, allowance)
-}
-
-/// The same, whatever its value is.
-#[cycle(read)]
-fn data_within(alloc: Global, input: &[u8], allowance: u8) -> Result<(DataValue, &[u8]), ReadFault>
-    requires short { length input.now ≤ input_limit }
-    requires allowed { allowance ≤ deepest }
-    ensures gives { Gives (λ x. (x.0, x.1.now)) result ((data_within allowance).front input.now) }
-    ensures shorter { IfOk result (λ x. length x.1.now ≤ length input.now) }
-    ensures counted { DataCountsMore input.now → result ≡ Err ReadFault.Refused }
-{
-    if allowance == 0 {
-        return Err(ReadFault::Refused);
-    }
-    let [mask, rest @ ..] = input else {
-        return Err(ReadFault::Refused);
-    };
-    let mask = *mask;
-    if mask & 0xc0 != 0 {
-        return Err(ReadFault::Refused);
-    }
-    if mask & 0x01 == 0 {
-        return bare_data(alloc, mask, rest);
-    }
-    valued_data(alloc, mask, rest, allowance - 1)
-}
-
-/// What follows the first byte of a DataValue without a value. It stands by itself, as the next does: where both meet, a
-/// whole DataValue would be copied once more, byte by byte.
-#[inline(never)]
-fn bare_data(alloc: Global, mask: u8, input: &[u8]) -> Result<(DataValue, &[u8]), ReadFault>
-    requires short { length input.now < input_limit }
-    requires mask { (has mask 0xc0 ≡ false) × (has mask 0x01 ≡ false) }
-    ensures gives { Gives (λ x. (x.0, x.1.now)) result ((made without (stamps.behind mask)).front input.now) }
-    ensures shorter { IfOk result (λ x. length x.1.now ≤ length input.now) }
-{
-    let (stamps, rest) = Stamps::read_behind(alloc, mask, input)?;
-    Ok((DataValue::of(None, stamps), rest))
-}
-
-/// What follows the first byte of a DataValue with a value, which is at most so deep.
-#[cycle(read)]
-#[inline(never)]
-fn valued_data(
-    alloc: Global,
-    mask: u8,
-    input: &[u8],
-    allowance: u8,
-) -> Result<(DataValue, &[u8]), ReadFault>
-    requires short { length input.now < input_limit }
-    requires allowed { allowance < deepest }
-    requires mask { (has mask 0xc0 ≡ false) × (has mask 0x01 ≡ true) }
-    ensures gives { Gives (λ x. (x.0, x.1.now)) result ((behind_mask (within allowance) mask).front input.now) }
-    ensures shorter { IfOk result (λ x. length x.1.now ≤ length input.now) }
-    ensures counted { VariantCountsMore input.now → result ≡ Err ReadFault.Refused }
-{
-    let (value, rest) = variant_within(alloc, input, allowance)?;
-    match Stamps::read_behind(alloc, mask, rest) {
-        Ok((stamps, rest)) => Ok((DataValue::of(Some(value), stamps), rest)),
-        Err(fault) => {
-            drop_aside(value);
-            Err(fault)
-        }
-    }
 }

@@ -1,15 +1,14 @@
 //! A DataValue whose value is a single number or truth value, put together on the stack and then put at once.
 
-ghost use Rattle.std.specs.Prelude.{◌≡◌, ◌++◌, [], true, if◌then◌else◌, IfSome};
-ghost use Rattle.ua_variant.specs.Spelling.{element_canon, data_canon};
-ghost use Rattle.ua_variant.specs.View.{element};
+ghost use Rattle.std.specs.Prelude.{◌≡◌, ◌++◌, [], if◌then◌else◌, IfSome};
+ghost use Rattle.ua_variant.specs.Spelling.{data_canon};
 
 use crate::element::LAST_NUMBER;
-use crate::variant::{Body, DataValue, Element};
-use crate::writing::head_of;
+use crate::variant::{Body, DataValue};
+use crate::writing::{head_of, put_number};
 use std::alloc::AllocError;
 use std::marker::Model;
-use ua_value::{NoMemory, Sink, Wire};
+use ua_value::{NoMemory, Sink};
 
 /// The mask, the kind, a number of at most 8 bytes, and 24 bytes of stamps, rounded up.
 const MOST: usize = 40;
@@ -65,27 +64,6 @@ impl Sink for Short {
     }
 }
 
-/// Puts a truth value or a number; of any other element it says that it did not.
-#[inline(always)]
-fn put_number(item: &Element, out: &mut Short) -> bool
-    ensures { result ≡ true → out.new ≡ out.old ++ element_canon (element item.now) }
-{
-    match item {
-        Element::Boolean(value) => value.emit(out).is_ok(),
-        Element::SByte(value) => value.emit(out).is_ok(),
-        Element::Byte(value) => value.emit(out).is_ok(),
-        Element::Int16(value) => value.emit(out).is_ok(),
-        Element::UInt16(value) => value.emit(out).is_ok(),
-        Element::Int32(value) => value.emit(out).is_ok(),
-        Element::UInt32(value) => value.emit(out).is_ok(),
-        Element::Int64(value) => value.emit(out).is_ok(),
-        Element::UInt64(value) => value.emit(out).is_ok(),
-        Element::Float(value) => value.emit(out).is_ok(),
-        Element::Double(value) => value.emit(out).is_ok(),
-        _ => false,
-    }
-}
-
 /// The value is a single number or truth value, so that `emit_short` is worth a call. No result rests on it: it only chooses
 /// between two ways that put the same.
 #[inline(always)]
@@ -113,9 +91,12 @@ fn spelled(value: &DataValue) -> Option<Short>
     let mut short = Short::new();
     let kind = one.kind();
     let heads = [1 + value.stamps.mask(), head_of(kind, false, false)];
-    if short.put(&heads).is_err() || !put_number(one, &mut short) {
+    if short.put(&heads).is_err() {
         return None;
     }
+    let Some(Ok(())) = put_number(one, &mut short) else {
+        return None;
+    };
     match value.stamps.emit(&mut short) {
         Ok(()) => Some(short),
         Err(_) => None,

@@ -4,10 +4,10 @@ ghost use Rattle.std.specs.Prelude.{◌≡◌, ◌≤◌, ◌<◌, ◌+◌, ◌+
 ghost use Rattle.ua_value.specs.Format.{AppendsPart, Gives, input_limit};
 ghost use Rattle.ua_variant.specs.Stamps.{stamps};
 
-use crate::flagged::{Kept, Then, bit, copy_kept, kept_len, read_kept};
+use crate::flagged::{Kept, bit, copy_kept, kept_len, read_kept};
 use crate::picoseconds::Picoseconds;
 use std::alloc::Global;
-use ua_value::plumbing::Parts;
+use ua_value::plumbing::{Parts, Then};
 use ua_value::{DateTime, NoMemory, ReadFault, Sink, StatusCode, Wire};
 
 /// The parts of a DataValue beside its value, in the order of their bytes (OPC 10000-6, 5.2.2.17).
@@ -96,6 +96,14 @@ impl Stamps {
             + kept_len(&self.server_picoseconds)
     }
 
+    /// Promises that the parts are values of their formats. It does nothing.
+    #[inline(always)]
+    pub(crate) fn promise_values(&self)
+        ensures { stamps.IsValue self.now }
+    {
+        let _len = self.len();
+    }
+
     /// The bits of the parts that are there.
     pub(crate) fn mask(&self) -> u8
         ensures mask { result ≡ stamps.mask self.now }
@@ -115,19 +123,19 @@ impl Stamps {
     {
         Then {
             first: Kept { part: &self.status },
-            others: Then {
+            behind: Then {
                 first: Kept {
                     part: &self.source_timestamp,
                 },
-                others: Then {
+                behind: Then {
                     first: Kept {
                         part: &self.source_picoseconds,
                     },
-                    others: Then {
+                    behind: Then {
                         first: Kept {
                             part: &self.server_timestamp,
                         },
-                        others: Kept {
+                        behind: Kept {
                             part: &self.server_picoseconds,
                         },
                     },

@@ -6,7 +6,8 @@ ghost use Rattle.ua_variant.specs.Formats.{variant_format, lawful_variant, data_
 ghost use Rattle.ua_variant.specs.Reading.{VariantCountsMore, DataCountsMore};
 
 use crate::copying::{copy_data, copy_variant};
-use crate::reading::{data_front, variant_within};
+use crate::reading::data::data_front;
+use crate::reading::variant_within;
 use crate::variant::{DataValue, Variant};
 use crate::writing::{data_len, emit_data, emit_variant, variant_len};
 use std::alloc::Global;

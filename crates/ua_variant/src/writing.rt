@@ -1,6 +1,6 @@
 //! The canonical spellings of variants and data values, and their lengths.
 
-ghost use Rattle.std.specs.Prelude.{◌≡◌, ◌≤◌, ◌+◌, ◌*◌, ◌++◌, is_some, length, map, true, IfSome, OnOk, OnErr};
+ghost use Rattle.std.specs.Prelude.{◌≡◌, ◌≤◌, ◌+◌, ◌*◌, ◌++◌, is_some, length, map, true, IfNone, IfSome, OnOk, OnErr};
 ghost use Rattle.ua_value.specs.Format.{AppendsPart, input_limit};
 ghost use Rattle.ua_variant.specs.Kinds.{width};
 ghost use Rattle.ua_variant.specs.Values.{depth, data_depth, element_depth, AllOf, items_of};
@@ -76,6 +76,29 @@ fn emit_list<S: Sink>(items: &Option<Vec<Element>>, out: &mut S) -> Result<(), N
     }
 }
 
+/// Puts a truth value or a number; none says that the element is another.
+#[inline(always)]
+pub(crate) fn put_number<S: Sink>(item: &Element, out: &mut S) -> Option<Result<(), NoMemory>>
+    ensures ok { IfSome result (λ put. OnOk put (S.contents out.new ≡ S.contents out.old ++ element_canon (element item.now))) }
+    ensures err { IfSome result (λ put. OnErr put (AppendsPart (S.contents out.old) (S.contents out.new) (element_canon (element item.now)))) }
+    ensures other { IfNone result (S.contents out.new ≡ S.contents out.old) }
+{
+    match item {
+        Element::Boolean(number) => Some(number.emit(out)),
+        Element::SByte(number) => Some(number.emit(out)),
+        Element::Byte(number) => Some(number.emit(out)),
+        Element::Int16(number) => Some(number.emit(out)),
+        Element::UInt16(number) => Some(number.emit(out)),
+        Element::Int32(number) => Some(number.emit(out)),
+        Element::UInt32(number) => Some(number.emit(out)),
+        Element::Int64(number) => Some(number.emit(out)),
+        Element::UInt64(number) => Some(number.emit(out)),
+        Element::Float(number) => Some(number.emit(out)),
+        Element::Double(number) => Some(number.emit(out)),
+        _ => None,
+    }
+}
+
 /// Puts the elements, one after another.
 #[cycle(emit)]
 fn emit_items<S: Sink>(items: &[Element], out: &mut S) -> Result<(), NoMemory>
@@ -95,18 +118,9 @@ fn emit_one<S: Sink>(item: &Element, out: &mut S) -> Result<(), NoMemory>
     ensures ok { OnOk result (S.contents out.new ≡ S.contents out.old ++ element_canon (element item.now)) }
     ensures err { OnErr result (AppendsPart (S.contents out.old) (S.contents out.new) (element_canon (element item.now))) }
 {
-    match item {
-        Element::SByte(number) => number.emit(out),
-        Element::Byte(number) => number.emit(out),
-        Element::Int16(number) => number.emit(out),
-        Element::UInt16(number) => number.emit(out),
-        Element::Int32(number) => number.emit(out),
-        Element::UInt32(number) => number.emit(out),
-        Element::Int64(number) => number.emit(out),
-        Element::UInt64(number) => number.emit(out),
-        Element::Float(number) => number.emit(out),
-        Element::Double(number) => number.emit(out),
-        _ => emit_element(item, out),
+    match put_number(item, out) {
+        Some(put) => put,
+        None => emit_element(item, out),
     }
 }
 

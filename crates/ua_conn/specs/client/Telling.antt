@@ -13,9 +13,9 @@ use Rattle.ua_conn.specs.declared.client.ask_fault.AskFault.{AskFault}
 use Rattle.ua_conn.specs.declared.client.ask_fault.AskFault.TheVariants.{Ended}
 
 -- the number of what an open request asks for
-abbrev pub type_of : Asks → ℕ
-type_of questions.Issue = 0
-type_of questions.Renew = 1
+abbrev pub request_type_of : Asks → ℕ
+request_type_of questions.Issue = 0
+request_type_of questions.Renew = 1
 
 -- the first reason against the command
 abbrev pub against : ClientShown → Act → Option AskFault

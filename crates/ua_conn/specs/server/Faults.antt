@@ -4,6 +4,7 @@ use Rattle.ua_frame.specs.Layout.{Frame, kind_of, flag_of, fields_of}
 use Rattle.ua_frame.specs.Rows.{Row, first_row, or_else}
 use Rattle.ua_frame.specs.HeaderRows.{header_fault}
 use Rattle.ua_frame.specs.Hello.{hello_rows}
+use Rattle.ua_frame.specs.Sizes.{least_buffer}
 use Rattle.ua_frame.specs.declared.kind.Kind.{Kind}
 use Rattle.ua_frame.specs.declared.kind.Kind.TheVariants as kinds
 use Rattle.ua_chunk.specs.Layout.{OpenChunk, Chunk, chunk_of}
@@ -19,9 +20,9 @@ use Rattle.ua_service.specs.Requests.{request_of}
 
 -- ---- the header and the type
 
--- the greatest frame: 8192 bytes before the Acknowledge, what it says afterwards
+-- the greatest frame: as large as the least buffer before the Acknowledge, what it says afterwards
 abbrev pub greatest_frame : Option Agreed → ℕ
-greatest_frame None = 8192
+greatest_frame None = least_buffer
 greatest_frame (Some agreed) = agreed.ack.receive
 
 -- First a Hello, then an OPN, then MSG, OPN and CLO.

@@ -5,6 +5,7 @@ use Rattle.ua_value.specs.Format.{IsBytes}
 use Rattle.ua_frame.specs.Streams.{size_of, IsFrame}
 use Rattle.ua_frame.specs.Layout.{Frame, kind_of, flag_of, fields_of}
 use Rattle.ua_frame.specs.Hello.{is_long}
+use Rattle.ua_frame.specs.Sizes.{least_buffer}
 use Rattle.ua_frame.specs.declared.kind.Kind.{Kind}
 use Rattle.ua_frame.specs.declared.kind.Kind.TheVariants as kinds
 use Rattle.ua_frame.specs.declared.hello.Hello.{Hello}
@@ -38,8 +39,8 @@ pub record IsHello (site : Site) (f : Frame) : Type 0 where
   pub layout : hello_in f ≡ Some hello
   -- at most 4095 bytes
   pub url : is_long hello.url ≡ false
-  pub receive : 8192 ≤ hello.receive
-  pub send : 8192 ≤ hello.send
+  pub receive : least_buffer ≤ hello.receive
+  pub send : least_buffer ≤ hello.send
 
 -- an OPN behind these frames, to this channel, issue (0) or renew (1)
 pub record IsOpening (site : Site) (past : Past) (channel type : ℕ) (f : Frame) : Type 0 where
@@ -156,9 +157,9 @@ IsFaultless site past (f ∷ fs) = (fault_at site (known site past) f ≡ None) 
 abbrev pub IsBeginning : Site → List Frame → Type 0
 IsBeginning site fs = (more : List Frame) × IsLegal site (fs ++ more)
 
--- OPC 10000-6, 7.1.2.3: a server takes frames of 8192 bytes at least.
+-- OPC 10000-6, 7.1.2.3: a server takes frames as large as the least buffer.
 abbrev pub HasRoom : Site → Type 0
-HasRoom site = 8192 ≤ site.settings.limits.receive
+HasRoom site = least_buffer ≤ site.settings.limits.receive
 
 -- a message that is half received can be dropped: an A frame can come
 abbrev pub CanDrop : Site → Past → ℕ → Type 0

@@ -1,6 +1,7 @@
 -- What a connection is made of, and the ranges that its numbers keep to.
 use Rattle.std.specs.Prelude.{◌≡◌, ℕ, ◌<◌, ◌≤◌, ◌^◌, false, length, Option, IfSome}
 use Rattle.ua_frame.specs.declared.limits.Limits.{Limits}
+use Rattle.ua_frame.specs.Sizes.{least_buffer, most_buffer}
 use Rattle.ua_chunk.specs.Gathered.{Gathered}
 use Rattle.ua_chunk.specs.NumberLaws.{IsNumber}
 use Rattle.ua_chunk.specs.Half.{Half, body_of}
@@ -9,10 +10,10 @@ use Rattle.ua_disco.specs.Configuration.{Configuration}
 use Rattle.ua_conn.specs.Past.{Agreed, Known}
 use Rattle.ua_conn.specs.server.Taking.{Running}
 
--- OPC 10000-6, 7.1.2.3: an end has buffers of at least 8192 bytes. Ours have at most 1048576.
+-- a size of a buffer that an end here has. OPC 10000-6, 7.1.2.3.
 pub record IsBuffer (n : ℕ) : Type 0 where
-  pub least : 8192 ≤ n
-  pub most : n ≤ 1048576
+  pub least : least_buffer ≤ n
+  pub most : n ≤ most_buffer
 
 -- what is received so far, between two frames, within the limit on a message
 pub record IsBetween (limits : Limits) (half : Gathered) : Type 0 where

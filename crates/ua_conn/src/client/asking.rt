@@ -4,7 +4,7 @@ ghost use Rattle.std.specs.Prelude.{◌≡◌, ◌≤◌, ◌++◌, true, not, N
 ghost use Rattle.ua_frame.specs.Streams.{moment_of as counted};
 ghost use Rattle.ua_chunk.specs.Cut.{part_count, fill};
 ghost use Rattle.ua_chunk.specs.Half.{body_of as body_bytes};
-ghost use Rattle.ua_chunk.specs.Numbers.{number_after};
+ghost use Rattle.ua_chunk.specs.Numbers.{most_part, number_after};
 ghost use Rattle.ua_chunk.specs.Written.{message_frames};
 ghost use Rattle.ua_channel.specs.Token.{newest_id};
 ghost use Rattle.ua_service.specs.Requests.{canon_request};
@@ -18,9 +18,9 @@ ghost use Rattle.ua_conn.specs.client.Telling.{against, waits_for, waiting_to};
 use crate::client::Client;
 use crate::client::ask_fault::AskFault;
 use crate::client::connection::Connection;
-use crate::limits::{CHUNK_HEADER, is_over};
-use crate::moment::later;
-use ua_chunk::{Head, chunk_count, write_message};
+use crate::limits::is_over;
+use ua_chunk::{CHUNK_HEADER, Head, chunk_count, write_message};
+use ua_frame::later;
 use ua_service::{Body, Request};
 
 /// How many requests may be pending.
@@ -33,7 +33,7 @@ impl Connection {
     /// Bytes of the longest part of a request that the server takes in one frame; 0 before the Acknowledge.
     fn greatest_part(&self) -> u32
         ensures part { result ≡ greatest_part self.now.waits.known.ack }
-        ensures most { result ≤ 1048552 }
+        ensures most { result ≤ most_part }
     {
         match &self.ack {
             None => 0,
@@ -67,7 +67,7 @@ impl Connection {
     ) -> Result<(), Request>
         requires open { has_token_of self.old.waits.known ≡ true }
         requires some { 1 ≤ part_limit }
-        requires most { part_limit ≤ 1048552 }
+        requires most { part_limit ≤ most_part }
         ensures said { OnOk result (out.new.items ≡ out.old.items
             ++ message_frames self.old.waits.known.channel (newest_id self.old.waits.known.tokens) self.old.next 0 (fill id (canon_request request) part_limit)) }
         ensures after { OnOk result (waiting_under id self.old.waits.pending ≡ None →
@@ -114,7 +114,7 @@ impl Client {
     /// The first reason against asking the request, in parts of `part_limit` bytes.
     fn against_asking(&self, request: &Request, part_limit: u32) -> Option<AskFault>
         ensures reason { result ≡ against self.now (commands.Ask request.now part_limit) }
-        ensures most { result ≡ None → part_limit ≤ 1048552 }
+        ensures most { result ≡ None → part_limit ≤ most_part }
     {
         let reason = self.against_any();
         if reason.is_some() {

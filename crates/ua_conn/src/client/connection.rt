@@ -4,6 +4,7 @@ ghost use Rattle.std.specs.Prelude.{◌≡◌, ◌≤◌, ◌<◌, ◌^◌, [], 
 ghost use Rattle.ua_channel.specs.ClientChannel.{renewal_due};
 ghost use Rattle.ua_channel.specs.Token.{newest_id};
 ghost use Rattle.ua_chunk.specs.Half.{body_of};
+ghost use Rattle.ua_chunk.specs.Numbers.{greatest_number};
 ghost use Rattle.ua_conn.specs.BothEnds.{IsConfig};
 ghost use Rattle.ua_conn.specs.client.Asking.{has_token_of};
 ghost use Rattle.ua_conn.specs.client.Past.{client_known};
@@ -61,7 +62,7 @@ impl Connection {
     ) -> Result<Connection, NoMemory>
         requires config { IsConfig config }
         requires first_least { 1 ≤ first_sequence }
-        requires first_most { first_sequence ≤ 4294966272 }
+        requires first_most { first_sequence ≤ greatest_number }
         ensures { IfOk result (λ c. c ≡ record { config = config; waits = record { reverse = reverse; known = client_known []; pending = []; due = Some 1 }; next = first_sequence; moment = 0 }) }
     {
         let half = Assembly::with_capacity(alloc, config.max_message, config.max_chunks)?;

@@ -5,9 +5,9 @@ ghost use Rattle.ua_frame.specs.Streams.{moment_of as counted};
 ghost use Rattle.ua_conn.specs.client.Bound.{held_bytes, most_held};
 ghost use Rattle.ua_conn.specs.client.Feeding.{HandsAll, FailsAll};
 
-use crate::client::hearing::hear;
+use crate::client::hearing::take_frames;
 use crate::client::{Answer, Client, ClientFault};
-use crate::moment::later;
+use ua_frame::later;
 
 impl Client {
     /// Takes one more piece of the server's bytes, which came at `now`: ticks of 100 ns since 1601-01-01 UTC. A moment
@@ -45,7 +45,7 @@ impl Client {
         self.failed = true;
         let now = later(self.moment, now);
         let mut answers = Vec::new(self.alloc);
-        let heard = hear(
+        let heard = take_frames(
             &mut self.connection,
             now,
             &mut self.buffer,

@@ -41,7 +41,7 @@ fn take_front(
 
 /// Takes the whole frames of the buffer and of the piece behind it, up to the first that is refused. The buffer has
 /// what is left, with room for the longest frame.
-pub(crate) fn hear(
+pub(crate) fn take_frames(
     connection: &mut Connection,
     now: u64,
     buffer: &mut FrameBuf,

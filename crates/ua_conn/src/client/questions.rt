@@ -11,7 +11,7 @@ ghost use Rattle.ua_frame.specs.Hello.{hello_frame};
 ghost use Rattle.ua_conn.specs.client.Asker.{hello_to as said_to};
 ghost use Rattle.ua_conn.specs.client.Asking.{has_token_of};
 ghost use Rattle.ua_conn.specs.client.Questions.{open_asked_body, close_asked_body};
-ghost use Rattle.ua_conn.specs.client.Telling.{type_of, numbered_to, waiting_to, waits_open};
+ghost use Rattle.ua_conn.specs.client.Telling.{request_type_of, numbered_to, waiting_to, waits_open};
 
 use crate::client::config::ClientConfig;
 use crate::client::connection::Connection;
@@ -64,7 +64,7 @@ pub(crate) enum Asks {
 
 /// The number of a request's type.
 fn request_type(asks: Asks) -> u8
-    ensures { result ≡ type_of asks }
+    ensures { result ≡ request_type_of asks }
 {
     match asks {
         Asks::Issue => 0,
@@ -75,7 +75,7 @@ fn request_type(asks: Asks) -> u8
 /// What an open request has behind its header: the version, the type, the mode without security, no nonce and the
 /// lifetime.
 fn open_asked_fields(asks: Asks, lifetime: u32) -> [u8; 20]
-    ensures { result ≡ to_le_bytes w32 0 ++ to_le_bytes w32 (type_of asks) ++ to_le_bytes w32 1 ++ null ++ to_le_bytes w32 lifetime }
+    ensures { result ≡ to_le_bytes w32 0 ++ to_le_bytes w32 (request_type_of asks) ++ to_le_bytes w32 1 ++ null ++ to_le_bytes w32 lifetime }
 {
     let [v0, v1, v2, v3] = VERSION.to_le_bytes();
     let [l0, l1, l2, l3] = lifetime.to_le_bytes();
@@ -107,7 +107,7 @@ fn open_asked_fields(asks: Asks, lifetime: u32) -> [u8; 20]
 #[tactic(auto, unfolding(crate::specs::client::Questions::open_asked_body, ua_service::specs::Message::message, ua_service::specs::Channel::open_request, ua_value::specs::Number::unsigned, ua_value::specs::Number::signed, ua_value::specs::Text::bytes_of))]
 fn open_asked_body(now: u64, id: u32, asks: Asks, lifetime: u32) -> [u8; 53]
     requires { now < 2 ^ 63 }
-    ensures { result ≡ open_asked_body now id (type_of asks) lifetime }
+    ensures { result ≡ open_asked_body now id (request_type_of asks) lifetime }
 {
     let mut body = [0; 53];
     let (head, fields) = body.split_at_mut(33);
@@ -137,7 +137,7 @@ impl Connection {
         out: &mut Vec<u8>,
     ) -> Result<(), NoMemory>
         requires { now < 2 ^ 63 }
-        ensures said { out.new.items ≡ (if is_ok result then out.old.items ++ open_frame channel self.old.next id (open_asked_body now id (type_of asks) self.old.config.lifetime) else out.old.items) }
+        ensures said { out.new.items ≡ (if is_ok result then out.old.items ++ open_frame channel self.old.next id (open_asked_body now id (request_type_of asks) self.old.config.lifetime) else out.old.items) }
         ensures after { self.new ≡ (if is_ok result then numbered_to self.old (number_after self.old.next 1) else self.old) }
     {
         let body = open_asked_body(now, id, asks, self.config.lifetime);

@@ -3,6 +3,7 @@
 ghost use Rattle.std.specs.Prelude.{◌≡◌, ◌≤◌, ◌<◌, ◌++◌, ◌∷◌, [], false, take, drop, IfOk, OnOk};
 ghost use Rattle.ua_frame.specs.Hello.{is_long};
 ghost use Rattle.ua_frame.specs.Streams.{moment_of as counted};
+ghost use Rattle.ua_chunk.specs.Numbers.{greatest_number};
 ghost use Rattle.ua_conn.specs.client.Asker.{Asker};
 ghost use Rattle.ua_conn.specs.client.Held.{client_held};
 ghost use Rattle.ua_conn.specs.client.Sending.{client_bytes};
@@ -169,7 +170,7 @@ fn client_of(alloc: Global, setup: &Setup) -> Result<Client, NoMemory>
     requires config { IsConfig setup.now.config }
     requires url { is_long setup.now.url.now ≡ false }
     requires first_least { 1 ≤ setup.now.first_sequence }
-    requires first_most { setup.now.first_sequence ≤ 4294966272 }
+    requires first_most { setup.now.first_sequence ≤ greatest_number }
     ensures { IfOk result (λ client. let a : Asker = (setup_of setup.now).asker in
         client ≡ record { config = a.config; held = client_held a []; output = client_bytes a [] []; failed = false }) }
 {
@@ -185,7 +186,7 @@ fn greeting(alloc: Global, setup: &Setup) -> Result<(Client, Vec<u8>), NoMemory>
     requires config { IsConfig setup.now.config }
     requires url { is_long setup.now.url.now ≡ false }
     requires first_least { 1 ≤ setup.now.first_sequence }
-    requires first_most { setup.now.first_sequence ≤ 4294966272 }
+    requires first_most { setup.now.first_sequence ≤ greatest_number }
     ensures client { IfOk result (λ made. let a : Asker = (setup_of setup.now).asker in
         made.0 ≡ record { config = a.config; held = client_held a []; output = []; failed = false }) }
     ensures up { IfOk result (λ made. made.1.items ≡ client_bytes (setup_of setup.now).asker [] []) }
@@ -228,7 +229,7 @@ impl<'a> Ends<'a> {
         requires config { IsConfig setup.now.config }
         requires url { is_long setup.now.url.now ≡ false }
         requires first_least { 1 ≤ setup.now.first_sequence }
-        requires first_most { setup.now.first_sequence ≤ 4294966272 }
+        requires first_most { setup.now.first_sequence ≤ greatest_number }
         ensures { IfOk result (λ ends. Between (setup_of setup.now) (begun (setup_of setup.now)) (run_of ends)) }
     {
         let start = setup.start;

@@ -2,13 +2,14 @@
 
 ghost use Rattle.std.specs.Prelude.{◌≡◌, ◌≤◌, ◌<◌, true, false, None};
 ghost use Rattle.ua_frame.specs.Hello.{is_long};
+ghost use Rattle.ua_chunk.specs.Numbers.{greatest_number};
 ghost use Rattle.ua_conn.specs.BothEnds.{IsConfig, IsSchedule, IsSetup, IsStep};
 ghost use Rattle.ua_conn.specs.Conversing.{setup_of};
 ghost use Rattle.ua_conn.specs.server.Greeting.{reverse_fault};
 
-use crate::moment::moment_of;
 use crate::schedule::Step;
 use crate::story::Setup;
+use ua_frame::moment_at;
 use ua_service::Body;
 use ua_value::Wire;
 
@@ -19,13 +20,13 @@ pub(crate) fn setup_is_in_range(setup: &Setup)
     requires url { is_long setup.now.url.now ≡ false }
     requires reverse { setup.now.reverse ≡ true → reverse_fault setup.now.settings.now ≡ None }
     requires first_least { 1 ≤ setup.now.first_sequence }
-    requires first_most { setup.now.first_sequence ≤ 4294966272 }
+    requires first_most { setup.now.first_sequence ≤ greatest_number }
     ensures { IsSetup (setup_of setup.now) }
 {
     let _settings = setup.settings.limits();
     let _channel = setup.channel_id;
     let _url = setup.url.len();
-    let _start = moment_of(setup.start);
+    let _start = moment_at(setup.start);
 }
 
 fn step_is_valid(step: &Step)

@@ -70,7 +70,7 @@ fn refuse(status: u32, out: &mut Vec<u8>) -> Result<(), NoMemory>
 /// Takes the whole frames of the buffer and of the piece behind it, up to the first that is refused or closes. The
 /// result is the end that they brought, if any; without one, the buffer has what is left. It has room for the longest
 /// frame.
-pub(crate) fn hear(
+pub(crate) fn take_frames(
     connection: &mut Connection,
     now: u64,
     buffer: &mut FrameBuf,

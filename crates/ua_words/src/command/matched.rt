@@ -11,11 +11,8 @@ use clap::ArgMatches;
 use std::alloc::Global;
 use std::num::ParseIntError;
 use ua_address::{address_of, is_url};
-use ua_value::plumbing::{LONGEST, MOST_TEXTS};
+use ua_value::plumbing::{LONGEST, LONGEST_URL, MOST_TEXTS};
 use ua_value::{Array, UaString};
-
-/// The most bytes of a url. OPC 10000-6, 7.1.2.3.
-const LONGEST_URL: usize = 4095;
 
 /// Whether a flag was given: its text is `true` then.
 pub fn is_flagged(matches: &ArgMatches, id: &str) -> bool

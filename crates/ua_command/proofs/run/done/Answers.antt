@@ -1,7 +1,18 @@
 use Rattle.std.proofs.Common.{refl}
 use Rattle.ua_command.specs.Run.{Streams}
-use Rattle.ua_command.proofs.Ends.{answer_done, answer_reads, value_done, show_done, show_unread, serve_done, many_done, ask_done, check_done, answer_stopped, file_stopped, serve_stopped, many_stopped, link_stopped, check_stopped, check_unlinked, asked_short, checked_short}
+use Rattle.ua_command.proofs.Ends.{answer_done, answer_reads, value_done, show_done, show_unread, serve_done, many_done, ask_done, check_done, answer_stopped, file_stopped, serve_stopped, many_stopped, link_stopped, check_stopped, check_unlinked, asked_short, checked_short, text_done, fault_stopped, fault_unlinked}
 use Rattle.ua_command.proofs.run.done.Goals as goal
+
+pub returns-in-Err-clause-done : goal.returns-in-Err-clause-done
+returns-in-Err-clause-done g c =
+    let s : Streams = record { left = g.I.Read.remaining c.args.input.now; printed = g.O.Write.contents c.args.output.now; printed' = g.O.Write.contents c.say_fault.new.output; told = g.E.Write.contents c.args.errors.now; told' = g.E.Write.contents c.args.errors.now } in
+    text_done _ c.in-Err.fault s c.say_fault.result c.in-Err.ensures.refused refl c.say_fault.ensures.ok
+
+pub returns-in-Err-clause-err : goal.returns-in-Err-clause-err
+returns-in-Err-clause-err g c = fault_stopped _ c.in-Err.fault _ c.say_fault.result c.in-Err.ensures.refused c.say_fault.ensures.err
+
+pub returns-in-Err-clause-known : goal.returns-in-Err-clause-known
+returns-in-Err-clause-known g c = λ linked. absurd (fault_unlinked c.in-Err.fault c.say_fault.result c.say_fault.ensures.err linked)
 
 pub returns-in-Answer-clause-done : goal.returns-in-Answer-clause-done
 returns-in-Answer-clause-done g c =

@@ -31,7 +31,11 @@ use ua_value::NoMemory;
 use ua_value::plumbing::let_go;
 
 /// Admits a MSG whose last byte came at `now`. OPC 10000-6, 6.7.2.3 and 6.7.2.4; OPC 10000-4, 5.6.2.1.
-fn heard<'a>(channel: &mut ClientChannel, frame: &Frame<'a>, now: u64) -> Result<Chunk<'a>, u32>
+fn admitted_chunk<'a>(
+    channel: &mut ClientChannel,
+    frame: &Frame<'a>,
+    now: u64,
+) -> Result<Chunk<'a>, u32>
     requires kind { frame.now.kind ≡ Kind.Message }
     requires stamp { now < 2 ^ 63 }
     requires later { channel.old.moment ≤ now }
@@ -115,7 +119,7 @@ fn same_message(half: &Assembly, id: u32) -> Result<(), u32>
 }
 
 /// Hands out what came of the request that is pending under this id, which is no longer pending then.
-fn answer(
+fn hand_answer(
     pending: &mut Pending,
     id: u32,
     came: AnswerResult,
@@ -156,7 +160,7 @@ impl Connection {
         ensures moment { self.new.moment ≤ now }
         ensures config { self.new.config ≡ self.old.config }
     {
-        let chunk = heard(&mut self.channel, frame, now)?;
+        let chunk = admitted_chunk(&mut self.channel, frame, now)?;
         let id = chunk.request_id();
         same_message(&self.half, id)?;
         let Some(request) = self.pending.get(id) else {
@@ -165,7 +169,7 @@ impl Connection {
         let Some(came) = gather(self.alloc, &mut self.half, &chunk, request)? else {
             return Ok(());
         };
-        answer(&mut self.pending, id, came, answers)?;
+        hand_answer(&mut self.pending, id, came, answers)?;
         Ok(())
     }
 }

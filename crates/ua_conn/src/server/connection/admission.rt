@@ -14,7 +14,7 @@ use ua_frame::Frame;
 
 /// Admits a MSG or CLO whose last byte came at `now`. OPC 10000-6, 6.7.2.3 and 6.7.2.4; OPC 10000-4, 5.6.2.1.
 #[inline(always)]
-pub(crate) fn heard<'a>(
+pub(crate) fn admitted_chunk<'a>(
     channel: &mut ServerChannel,
     frame: &Frame<'a>,
     now: u64,

@@ -6,7 +6,7 @@ ghost use Rattle.ua_service.specs.declared.request.Request.{Request as Asked};
 ghost use Rattle.ua_conn.specs.server.Effects.{close_effect, Does};
 
 use crate::server::connection::Connection;
-use crate::server::connection::admission::heard;
+use crate::server::connection::admission::admitted_chunk;
 use crate::server::fault::Fault;
 use ua_frame::{Frame, Kind};
 use ua_service::read_close;
@@ -23,7 +23,7 @@ impl<'a> Connection<'a> {
         ensures moment { self.new.moment ≤ now }
         ensures site { self.new.site ≡ self.old.site }
     {
-        let chunk = heard(&mut self.channel, frame, now)?;
+        let chunk = admitted_chunk(&mut self.channel, frame, now)?;
         let_go(read_close(self.alloc, chunk.body())?);
         Ok(())
     }

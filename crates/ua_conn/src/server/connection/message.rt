@@ -15,15 +15,17 @@ ghost use Rattle.ua_conn.specs.server.Replies.{is_over_limits, answer_parts};
 ghost use Rattle.ua_conn.specs.server.Effects.{message_effect, Does, Judges};
 ghost use Rattle.ua_conn.specs.server.Parts.{gathered_rows, Gathers};
 
-use crate::limits::{CHUNK_HEADER, is_over};
+use crate::limits::is_over;
 use crate::server::agreed::Agreed;
 use crate::server::answers::answer_to;
 use crate::server::connection::Connection;
-use crate::server::connection::admission::heard;
+use crate::server::connection::admission::admitted_chunk;
 use crate::server::fault::Fault;
 use crate::status::BAD_RESPONSE_TOO_LARGE;
 use std::alloc::Global;
-use ua_chunk::{Added, Assembly, Chunk, Head, Sequence, chunk_count, write_abort, write_measured};
+use ua_chunk::{
+    Added, Assembly, CHUNK_HEADER, Chunk, Head, Sequence, chunk_count, write_abort, write_measured,
+};
 use ua_disco::Settings;
 use ua_frame::{Frame, Kind};
 use ua_service::{Request, read_request};
@@ -158,12 +160,13 @@ impl<'a> Connection<'a> {
         ensures moment { self.new.moment ≤ now }
         ensures site { self.new.site ≡ self.old.site }
     {
-        let chunk = heard(&mut self.channel, frame, now)?;
+        let chunk = admitted_chunk(&mut self.channel, frame, now)?;
         let request = match gather(self.alloc, &mut self.half, &chunk) {
             Ok(Some(request)) => request,
             Ok(None) => return Ok(()),
             Err(fault) => return Err(fault),
         };
+        // No stream comes here without a Hello: before one, and before an OPN, a MSG is refused by its type.
         let Some(agreed) = self.agreed else {
             asked.push(request)?;
             return Ok(());

@@ -28,7 +28,7 @@ returns-in_default-clause-asked g c = subst (λ cut. Answered (g.C.Clock.answere
 pub returns-clause-asked : goal.returns-clause-asked
 returns-clause-asked g c =
     let fits : SFits w64 c.now-now.result = search rules in
-    let cut = simp to_z-of_z at c.answer.ensures.cut in
+    let cut = simp to_z-of_z at c.answer_read.ensures.cut in
     subst (λ cut. Answered (g.C.Clock.answered c.args.clock.now) (g.C.Clock.answered c.now-now.new.self) (moment_of_read cut)) (sym cut) c.now-now.ensures
 
 pub returns-clause-turns : goal.returns-clause-turns
@@ -37,18 +37,18 @@ returns-clause-turns g c =
     let buf = c.recv.new.buf in
     let input = g.L.Link.input in
     let bound = c.in-Ok.ensures.bound in
-    let kept = sym c.answer.ensures.kept in
+    let kept = sym c.answer_read.ensures.kept in
     let fits : SFits w64 c.now-now.result = search rules in
     let room : length buf ≡ 4096 = c.recv.auto.buf ∙ c.told-room in
     let old : Seen = record { input = input c.args.link.now; output = g.L.Link.output c.args.link.now; faults = g.L.Link.fault_count c.args.link.now } in
     let before : Seen = record { input = input c.recv.new.self; output = g.L.Link.output c.recv.new.self; faults = g.L.Link.fault_count c.recv.new.self } in
-    let after : Seen = record { input = input c.answer.new.link; output = g.L.Link.output c.answer.new.link; faults = g.L.Link.fault_count c.answer.new.link } in
+    let after : Seen = record { input = input c.answer_read.new.link; output = g.L.Link.output c.answer_read.new.link; faults = g.L.Link.fault_count c.answer_read.new.link } in
     inr (record {
       now = c.now-now.result;
       bytes = take n buf;
-      cut = simp to_z-of_z at c.answer.ensures.cut;
+      cut = simp to_z-of_z at c.answer_read.ensures.cut;
       input = subst (λ i. Consumes (input c.args.link.now) i (take n buf)) kept c.in-Ok.ensures.bytes.0;
       within = omega arith;
       at_end = λ none. subst IsAtEnd kept (c.in-Ok.ensures.bytes.1 (none_read n buf bound.0 none) (omega arith));
-      heard = heard_since c.args.server.now c.answer.new.server c.now-now.result (take n buf) old before after c.answer.result c.recv.ensures.kept c.in-Ok.ensures.counted (simp to_z-of_z at c.answer.ensures.heard);
+      heard = heard_since c.args.server.now c.answer_read.new.server c.now-now.result (take n buf) old before after c.answer_read.result c.recv.ensures.kept c.in-Ok.ensures.counted (simp to_z-of_z at c.answer_read.ensures.heard);
     })

@@ -13,29 +13,29 @@ use Rattle.ua_variant.proofs.PlainVariants.{one_plain}
 use Rattle.ua_variant.proofs.Steps.{no_level, no_data_level, no_first, no_mask, one_level, one_data_level, is_variant, is_data_behind}
 use Rattle.ua_variant.proofs.reading.+read.Goals as goal
 
-pub data_within-returns-then-allowance-eq0-clause-gives : goal.data_within-returns-then-allowance-eq0-clause-gives
-data_within-returns-then-allowance-eq0-clause-gives t c = no_data_level c.args.allowance c.args.input.now (omega arith)
+pub data::data_within-returns-then-allowance-eq0-clause-gives : goal.data::data_within-returns-then-allowance-eq0-clause-gives
+data::data_within-returns-then-allowance-eq0-clause-gives t c = no_data_level c.args.allowance c.args.input.now (omega arith)
 
-pub data_within-returns-in_default-clause-gives : goal.data_within-returns-in_default-clause-gives
-data_within-returns-in_default-clause-gives t c = no_mask c.args.allowance c.args.input.now (omega (arith, c.in_default.len_below))
+pub data::data_within-returns-in_default-clause-gives : goal.data::data_within-returns-in_default-clause-gives
+data::data_within-returns-in_default-clause-gives t c = no_mask c.args.allowance c.args.input.now (omega (arith, c.in_default.len_below))
 
-pub data_within-returns-then-mask-ne0-clause-gives : goal.data_within-returns-then-mask-ne0-clause-gives
-data_within-returns-then-mask-ne0-clause-gives t c =
+pub data::data_within-returns-in-None-clause-gives : goal.data::data_within-returns-in-None-clause-gives
+data::data_within-returns-in-None-clause-gives t c =
     let step = one_data_level c.args.allowance c.args.input.now (omega arith) (omega (arith, c.in-len1-up.len_at_least)) in
     rw step (search rules)
 
-pub data_within-returns-then-mask-eq0-clause-gives : goal.data_within-returns-then-mask-eq0-clause-gives
-data_within-returns-then-mask-eq0-clause-gives t c =
+pub data::data_within-returns-in-Some-false-clause-gives : goal.data::data_within-returns-in-Some-false-clause-gives
+data::data_within-returns-in-Some-false-clause-gives t c =
     let step = one_data_level c.args.allowance c.args.input.now (omega arith) (omega (arith, c.in-len1-up.len_at_least)) in
     rw step (search rules)
 
-pub data_within-returns-clause-gives : goal.data_within-returns-clause-gives
-data_within-returns-clause-gives t c =
+pub data::data_within-returns-in-Some-true-clause-gives : goal.data::data_within-returns-in-Some-true-clause-gives
+data::data_within-returns-in-Some-true-clause-gives t c =
     let step = one_data_level c.args.allowance c.args.input.now (omega arith) (omega (arith, c.in-len1-up.len_at_least)) in
     rw step c.valued_data.ensures.gives
 
-pub valued_data-of-requires : goal.valued_data-of-requires
-valued_data-of-requires t c =
+pub data::valued_data-of-requires : goal.data::valued_data-of-requires
+data::valued_data-of-requires t c =
     let found : (behind_mask (within c.args.allowance) c.args.mask).front c.args.input.now ≡ Some (with_value c.in_ok-value.value c.in-Ok.stamps, c.in-Ok.rest.now) = search rules in
     is_data_behind c.args.allowance c.args.mask c.args.input.now _ _ c.requires.allowed c.ranges.mask.fits (λ i. omega (arith, c.type_inv.input i)) c.requires.short found
 
@@ -61,14 +61,14 @@ each_within-returns-clause-gives t c =
     let g = elements_within c.args.allowance (kind_of c.args.kind) in
     is_done g (map element c.loop.items.items) c.args.count c.loop.counter c.loop.rest.now (items_at g c.args.count c.args.input.now) (omega (arith, c.loop-test.false)) c.loop.invariant.so_far
 
-pub each_data-returns-in_err-item-clause-gives : goal.each_data-returns-in_err-item-clause-gives
-each_data-returns-in_err-item-clause-gives t c =
+pub data::each_data-returns-in_err-item-clause-gives : goal.data::each_data-returns-in_err-item-clause-gives
+data::each_data-returns-in_err-item-clause-gives t c =
     let g = elements_within c.args.allowance data_kind in
     let p = err_from_is_err_and c.from_residual-in_err-item.result c.from_residual-in_err-item.ensures.1 in
     rw (p.1, p.2) (ends g c.in_err-item.field-0.0 (map element c.loop.items.items) c.args.count c.loop.counter c.loop.rest.now (items_at g c.args.count c.args.input.now) c.loop-test.true c.in_err-item.ensures.gives c.loop.invariant.so_far)
 
-pub each_data-loop-preserved : goal.each_data-loop-preserved
-each_data-loop-preserved t c =
+pub data::each_data-loop-preserved : goal.data::each_data-loop-preserved
+data::each_data-loop-preserved t c =
     let g = elements_within c.args.allowance data_kind in
     let e = elements.DataValue c.in_ok-item.item in
     let items : map element c.push_reserved.new.self.items ≡ map element c.loop.items.items ++ element e ∷ [] = rw (c.push_reserved.ensures.items, c.reserve.ensures.items) (map_push element c.loop.items.items e) in
@@ -78,8 +78,8 @@ each_data-loop-preserved t c =
       counted = search rules;
     }
 
-pub each_data-returns-clause-gives : goal.each_data-returns-clause-gives
-each_data-returns-clause-gives t c =
+pub data::each_data-returns-clause-gives : goal.data::each_data-returns-clause-gives
+data::each_data-returns-clause-gives t c =
     let g = elements_within c.args.allowance data_kind in
     is_done g (map element c.loop.items.items) c.args.count c.loop.counter c.loop.rest.now (items_at g c.args.count c.args.input.now) (omega (arith, c.loop-test.false)) c.loop.invariant.so_far
 

@@ -30,23 +30,23 @@ decreases-element_within l = 8 * l.allowance + 3
 abbrev pub decreases-variant_element : goal.decreases-variant_element
 decreases-variant_element l = 8 * l.allowance + 2
 
-abbrev pub decreases-data_element : goal.decreases-data_element
-decreases-data_element l = 8 * l.allowance + 2
+abbrev pub decreases-data::data_element : goal.decreases-data::data_element
+decreases-data::data_element l = 8 * l.allowance + 2
 
-abbrev pub decreases-data_within : goal.decreases-data_within
-decreases-data_within l = 8 * l.allowance
+abbrev pub decreases-data::data_within : goal.decreases-data::data_within
+decreases-data::data_within l = 8 * l.allowance
 
-abbrev pub decreases-valued_data : goal.decreases-valued_data
-decreases-valued_data l = 8 * l.allowance + 6
+abbrev pub decreases-data::valued_data : goal.decreases-data::valued_data
+decreases-data::valued_data l = 8 * l.allowance + 6
 
-abbrev pub decreases-boxed_within : goal.decreases-boxed_within
-decreases-boxed_within l = 8 * l.allowance + 1
+abbrev pub decreases-data::boxed_within : goal.decreases-data::boxed_within
+decreases-data::boxed_within l = 8 * l.allowance + 1
 
-abbrev pub decreases-each_data : goal.decreases-each_data
-decreases-each_data l = 8 * l.allowance + 2
+abbrev pub decreases-data::each_data : goal.decreases-data::each_data
+decreases-data::each_data l = 8 * l.allowance + 2
 
-abbrev pub invariant-each_data-loop : goal.invariant-each_data-loop
-invariant-each_data-loop l =
+abbrev pub invariant-data::each_data-loop : goal.invariant-data::each_data-loop
+invariant-data::each_data-loop l =
     let g = elements_within l.allowance data_kind in
     record {
       within : length l.rest ≤ length l.input;

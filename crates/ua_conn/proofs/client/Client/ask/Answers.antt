@@ -17,7 +17,7 @@ invariant_of-self-in-Ok c =
     let e = c.later-self-inside.ensures in
     let held = c.self.invariant.bounded in
     record {
-      timely = record { within = λ alive. omega (arith, c.in-Ok.ensures.moment, c.self.invariant.timely.within alive, e.moment); clock = e.clock };
+      timely = record { within = λ alive. omega (arith, c.in-Ok.ensures.moment, c.self.invariant.timely.within alive, e.moment); clock = omega (arith, e.moment, e.clock, c.self.invariant.timely.clock) };
       bounded = record {
         room = held.room ∙ sym (ap (λ (config : ClientConfig). config.buffer) c.in-Ok.ensures.config);
         rest = held.rest;

@@ -14,7 +14,7 @@ returns-in-Err-clause-fails c =
     let x : Piece = record { moment = moment_of c.args.now; bytes = c.args.piece.now } in
     let old : ClientShown = shown_of s.connection s.closed s.next_id s.moment s.buffer.bytes s.output.items s.failed in
     let now : c.later-now.result ≡ max s.moment x.moment = c.later-now.ensures.moment ∙ ap (λ z. max s.moment (moment_of z)) (to_z-of_z w64 c.args.now c.ranges.now) in
-    let P : ℕ → Type 0 = λ t. BreaksBy s.connection t (s.buffer.bytes ++ x.bytes) s.output.items c.hear-heard.new.out.items c.in-Err.fault in
+    let P : ℕ → Type 0 = λ t. BreaksBy s.connection t (s.buffer.bytes ++ x.bytes) s.output.items c.take_frames-heard.new.out.items c.in-Err.fault in
     let broke = subst P now c.in-Err.ensures.breaks in
     λ _. (rw (← c.self.view_is) (breaks old _ x s.connection.moment c.in-Err.fault broke refl))
 
@@ -22,7 +22,7 @@ pub returns-in-Ok-clause-hands : goal.returns-in-Ok-clause-hands
 returns-in-Ok-clause-hands c =
     let s = c.self.inside in
     let x : Piece = record { moment = moment_of c.args.now; bytes = c.args.piece.now } in
-    let new = c.hear-heard.new in
+    let new = c.take_frames-heard.new in
     let old : ClientShown = shown_of s.connection s.closed s.next_id s.moment s.buffer.bytes s.output.items s.failed in
     let now : c.later-now.result ≡ max s.moment x.moment = c.later-now.ensures.moment ∙ ap (λ z. max s.moment (moment_of z)) (to_z-of_z w64 c.args.now c.ranges.now) in
     let P : ℕ → List Answer → Type 0 = λ t q. Hears s.connection new.connection t (s.buffer.bytes ++ x.bytes) (record { bytes = s.output.items; answers = q }) (record { bytes = new.out.items; answers = new.answers.items }) new.buffer.bytes in

@@ -24,20 +24,18 @@ returns-in_err-end-clause-part c =
     let r : Running = c.self.inside.connection in
     let h : Held = record { known = r.known; next = r.next; moment = c.self.inside.moment; rest = c.self.inside.buffer.bytes } in
     let x : Piece = record { moment = moment_of c.args.now; bytes = c.args.piece.now } in
-    let moment : c.moment_of.result ≡ x.moment = c.moment_of.ensures.moment ∙ ap moment_of (to_z-of_z w64 c.args.now c.ranges.now) in
-    let now : c.max-now.result ≡ max h.moment x.moment = c.max-now.ensures ∙ ap (max h.moment) moment in
-    let P : ℕ → Type 0 = λ t. HearsPart r t (h.rest ++ x.bytes) c.args.out.now.items c.hear-heard.new.out.items in
+    let now : c.later-now.result ≡ max h.moment x.moment = c.later-now.ensures.moment ∙ ap (λ z. max h.moment (moment_of z)) (to_z-of_z w64 c.args.now c.ranges.now) in
+    let P : ℕ → Type 0 = λ t. HearsPart r t (h.rest ++ x.bytes) c.args.out.now.items c.take_frames-heard.new.out.items in
     let heard = subst P now c.in_err-end.ensures.part in
-    λ _. (rw (← c.self.view_is) (feeds_part r.site h x r.moment c.args.out.now.items c.hear-heard.new.out.items heard))
+    λ _. (rw (← c.self.view_is) (feeds_part r.site h x r.moment c.args.out.now.items c.take_frames-heard.new.out.items heard))
 
 pub returns-then-is_some-clause-fed : goal.returns-then-is_some-clause-fed
 returns-then-is_some-clause-fed c =
     let r : Running = c.self.inside.connection in
     let h : Held = record { known = r.known; next = r.next; moment = c.self.inside.moment; rest = c.self.inside.buffer.bytes } in
     let x : Piece = record { moment = moment_of c.args.now; bytes = c.args.piece.now } in
-    let new = c.hear-heard.new in
-    let moment : c.moment_of.result ≡ x.moment = c.moment_of.ensures.moment ∙ ap moment_of (to_z-of_z w64 c.args.now c.ranges.now) in
-    let now : c.max-now.result ≡ max h.moment x.moment = c.max-now.ensures ∙ ap (max h.moment) moment in
+    let new = c.take_frames-heard.new in
+    let now : c.later-now.result ≡ max h.moment x.moment = c.later-now.ensures.moment ∙ ap (λ z. max h.moment (moment_of z)) (to_z-of_z w64 c.args.now c.ranges.now) in
     let P : ℕ → List Request → Type 0 = λ t q. Hears r new.connection t (h.rest ++ x.bytes) (record { bytes = c.args.out.now.items; asked = q }) (record { bytes = new.out.items; asked = new.asked.items }) new.buffer.bytes c.in_ok-end.end in
     let heard = subst (P (max h.moment x.moment)) c.new-requests.ensures.items (subst (λ t. P t c.new-requests.result.items) now c.in_ok-end.ensures.heard) in
     let came : is_some c.in_ok-end.end ≡ true = sym c.is_some.ensures ∙ c.if-is_some.true in
@@ -49,9 +47,8 @@ returns-clause-fed c =
     let r : Running = c.self.inside.connection in
     let h : Held = record { known = r.known; next = r.next; moment = c.self.inside.moment; rest = c.self.inside.buffer.bytes } in
     let x : Piece = record { moment = moment_of c.args.now; bytes = c.args.piece.now } in
-    let new = c.hear-heard.new in
-    let moment : c.moment_of.result ≡ x.moment = c.moment_of.ensures.moment ∙ ap moment_of (to_z-of_z w64 c.args.now c.ranges.now) in
-    let now : c.max-now.result ≡ max h.moment x.moment = c.max-now.ensures ∙ ap (max h.moment) moment in
+    let new = c.take_frames-heard.new in
+    let now : c.later-now.result ≡ max h.moment x.moment = c.later-now.ensures.moment ∙ ap (λ z. max h.moment (moment_of z)) (to_z-of_z w64 c.args.now c.ranges.now) in
     let none : c.in_ok-end.end ≡ None = is_none_by c.in_ok-end.end (sym c.is_some.ensures ∙ c.if-is_some.false) in
     let P : ℕ → List Request → Type 0 = λ t q. Hears r new.connection t (h.rest ++ x.bytes) (record { bytes = c.args.out.now.items; asked = q }) (record { bytes = new.out.items; asked = new.asked.items }) new.buffer.bytes c.in_ok-end.end in
     let heard = subst (P (max h.moment x.moment)) c.new-requests.ensures.items (subst (λ t. P t c.new-requests.result.items) now c.in_ok-end.ensures.heard) in

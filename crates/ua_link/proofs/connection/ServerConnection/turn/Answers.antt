@@ -23,13 +23,13 @@ returns-in-Ok-take-clause-leaves g c = λ site turns cuts n begun s.
     let read = subst (λ (k : Option ℕ). ReadsNow {E = LinkFault} before.input mid.input (Ok k) room) c.in-Some.is c.in-Ok.ensures.bytes in
     let opened = subst (λ (k : Option ℕ). IfSome k (λ _. c.args.self.now.ending ≡ None)) c.in-Some.is c.in-Ok.ensures.open in
     let noted = simp to_z-of_z at c.note.ensures in
-    let after : Seen = record { input = g.L.ReadyLink.input c.answer-in-Ok-take.new.link; output = g.L.ReadyLink.output c.answer-in-Ok-take.new.link; faults = g.L.ReadyLink.fault_count c.answer-in-Ok-take.new.link } in
+    let after : Seen = record { input = g.L.ReadyLink.input c.finish_turn-in-Ok-take.new.link; output = g.L.ReadyLink.output c.finish_turn-in-Ok-take.new.link; faults = g.L.ReadyLink.fault_count c.finish_turn-in-Ok-take.new.link } in
     let taken = simp to_z-of_z at c.in-Ok-take.ensures.taken in
     let room_some : 0 < length room = search rules in
     let whole = came_whole site turns c.args.self.now c.note.new.self c.take.new.self _ cuts n m begun before mid now room s noted opened read room_some c.read-came.ensures.kept c.in-Ok.ensures.counted taken in
-    let cut : c.answer-in-Ok-take.result.cut ≡ Some (now, m) = simp to_z-of_z at c.answer-in-Ok-take.ensures.cut in
-    subst (λ (k : Option Cut). Leaves site turns c.answer-in-Ok-take.new.self (cuts_with k cuts) (n + c.answer-in-Ok-take.result.written) begun after c.answer-in-Ok-take.result.over) (sym cut)
-    (c.answer-in-Ok-take.ensures.leaves site turns (cuts ++ (now, m) ∷ []) n begun whole)
+    let cut : c.finish_turn-in-Ok-take.result.cut ≡ Some (now, m) = simp to_z-of_z at c.finish_turn-in-Ok-take.ensures.cut in
+    subst (λ (k : Option Cut). Leaves site turns c.finish_turn-in-Ok-take.new.self (cuts_with k cuts) (n + c.finish_turn-in-Ok-take.result.written) begun after c.finish_turn-in-Ok-take.result.over) (sym cut)
+    (c.finish_turn-in-Ok-take.ensures.leaves site turns (cuts ++ (now, m) ∷ []) n begun whole)
 
 pub returns-in-Err-clause-leaves : goal.returns-in-Err-clause-leaves
 returns-in-Err-clause-leaves g c = λ site turns cuts n begun s.
@@ -51,8 +51,8 @@ pub returns-in_default-came-clause-leaves : goal.returns-in_default-came-clause-
 returns-in_default-came-clause-leaves g c = λ site turns cuts n begun s.
     let before : Seen = record { input = g.L.ReadyLink.input c.args.link.now; output = g.L.ReadyLink.output c.args.link.now; faults = g.L.ReadyLink.fault_count c.args.link.now } in
     let mid : Seen = record { input = g.L.ReadyLink.input c.read-came.new.link; output = g.L.ReadyLink.output c.read-came.new.link; faults = g.L.ReadyLink.fault_count c.read-came.new.link } in
-    let after : Seen = record { input = g.L.ReadyLink.input c.answer.new.link; output = g.L.ReadyLink.output c.answer.new.link; faults = g.L.ReadyLink.fault_count c.answer.new.link } in
+    let after : Seen = record { input = g.L.ReadyLink.input c.finish_turn.new.link; output = g.L.ReadyLink.output c.finish_turn.new.link; faults = g.L.ReadyLink.fault_count c.finish_turn.new.link } in
     let kept = subst (λ (k : Option ℕ). ReadsNow {E = LinkFault} before.input mid.input (Ok k) c.read-came.new.room) c.in_default-came.is c.in-Ok.ensures.bytes in
     let stands = nothing_came site turns c.args.self.now c.note.new.self _ cuts n begun before mid s c.note.ensures kept c.read-came.ensures.idle c.read-came.ensures.kept c.in-Ok.ensures.counted in
-    subst (λ (k : Option Cut). Leaves site turns c.answer.new.self (cuts_with k cuts) (n + c.answer.result.written) begun after c.answer.result.over) (sym c.answer.ensures.cut)
-    (c.answer.ensures.leaves site turns cuts n begun stands)
+    subst (λ (k : Option Cut). Leaves site turns c.finish_turn.new.self (cuts_with k cuts) (n + c.finish_turn.result.written) begun after c.finish_turn.result.over) (sym c.finish_turn.ensures.cut)
+    (c.finish_turn.ensures.leaves site turns cuts n begun stands)

@@ -24,9 +24,9 @@ returns-clause-does c = λ bytes.
     ap (λ n. waiting_under n s.pending.requests) (sym id) ∙ sym c.get.ensures ∙ ap option_copied c.in-Some.is in
     let judged = c.in_ok-came.ensures.judged in
     let gathers = subst (λ (r : Option AnswerResult). Gathers s.half c.gather.new.half chunk r) c.in-Some-2.is judged.1 in
-    let ends : Ends chunk.chunk.request_id s.pending.requests c.answer.new.pending.requests (Some c.in-Some-2.came) c.args.answers.now.items c.answer.new.answers.items = record {
-      left = c.in_ok-answer.ensures.left ∙ ap (λ n. without n s.pending.requests) id;
-      given = c.in_ok-answer.ensures.given ∙ ap (λ n. c.args.answers.now.items ++ answer_with n (waiting_under n s.pending.requests) (Some c.in-Some-2.came)) id;
+    let ends : Ends chunk.chunk.request_id s.pending.requests c.hand_answer.new.pending.requests (Some c.in-Some-2.came) c.args.answers.now.items c.hand_answer.new.answers.items = record {
+      left = c.in_ok-hand_answer.ensures.left ∙ ap (λ n. without n s.pending.requests) id;
+      given = c.in_ok-hand_answer.ensures.given ∙ ap (λ n. c.args.answers.now.items ++ answer_with n (waiting_under n s.pending.requests) (Some c.in-Some-2.came)) id;
     } in
-    rw (← c.self.view_is) (answer_acts s.config s.reverse s.ack s.channel c.heard.new.channel s.half c.gather.new.half s.pending.requests c.answer.new.pending.requests s.due s.next c.args.now p.flag (chunk_of p.fields) chunk p.kind c.in-Some.request.now (Some c.in-Some-2.came) bytes c.args.answers.now.items c.answer.new.answers.items
+    rw (← c.self.view_is) (answer_acts s.config s.reverse s.ack s.channel c.admitted_chunk.new.channel s.half c.gather.new.half s.pending.requests c.hand_answer.new.pending.requests s.due s.next c.args.now p.flag (chunk_of p.fields) chunk p.kind c.in-Some.request.now (Some c.in-Some-2.came) bytes c.args.answers.now.items c.hand_answer.new.answers.items
     c.self.invariant.between is c.in_ok-chunk.ensures.admitted heard.channel same wanted judged.0 gathers ends)

@@ -12,5 +12,5 @@ returns-clause-does c = λ bytes asked.
     let chunk = c.in_ok-chunk.chunk in
     let judged = c.in_ok-chunk.ensures.judged in
     let body : is_none (close_of chunk.chunk.body) ≡ false = ap (λ b. is_none (close_of b)) (sym c.body.ensures) ∙ ap is_none c.in_ok-read_close.ensures.gives in
-    rw (← c.self.view_is) (close_acts s.settings.now s.id s.agreed s.channel c.heard.new.channel s.half.half s.next c.args.now (chunk_of p.fields) chunk.chunk bytes asked
+    rw (← c.self.view_is) (close_acts s.settings.now s.id s.agreed s.channel c.admitted_chunk.new.channel s.half.half s.next c.args.now (chunk_of p.fields) chunk.chunk bytes asked
     c.self.invariant.same (flagged_some p.kind p.flag (chunk_of p.fields) chunk judged.1.chunk) judged.0 judged.1.channel body)

@@ -29,7 +29,7 @@ returns-clause-does c =
     let numbered = c.in_ok-hand_on.ensures.numbered ∙ (λ i. number_after s.next (length (answer_parts agreed (c.request_id.ensures i) body))) in
     let says = subst (λ (a : Option Agreed). Answers site a token id s.next c.args.now (Some c.in-Ok-Some.request) c.hand_on.new.next (gains out asked) (gains c.hand_on.new.out.items c.hand_on.new.asked.items)) (sym c.in-Some.is)
     (answered site agreed token c.unwrap.result id s.next c.args.now c.in-Ok-Some.request body c.hand_on.new.next out c.hand_on.new.out.items asked c.hand_on.new.asked.items c.self.invariant.number used refl said numbered c.in_ok-hand_on.ensures.asked) in
-    rw (← c.self.view_is) (message_acts s.settings.now s.id s.agreed s.channel c.heard.new.channel s.half c.gather.new.half s.next c.hand_on.new.next c.args.now p.flag (chunk_of p.fields) chunk p.kind (Some c.in-Ok-Some.request) (gains out asked) (gains c.hand_on.new.out.items c.hand_on.new.asked.items)
+    rw (← c.self.view_is) (message_acts s.settings.now s.id s.agreed s.channel c.admitted_chunk.new.channel s.half c.gather.new.half s.next c.hand_on.new.next c.args.now p.flag (chunk_of p.fields) chunk p.kind (Some c.in-Ok-Some.request) (gains out asked) (gains c.hand_on.new.out.items c.hand_on.new.asked.items)
     c.self.invariant.same c.self.invariant.between is judged.0 judged.1.channel gathered.0 gathered.1 says)
 
 pub returns-in_default-clause-does : goal.returns-in_default-clause-does
@@ -47,7 +47,7 @@ returns-in_default-clause-does c =
     let asked = c.args.asked.now.items in
     let says = subst (λ (a : Option Agreed). Answers site a token id s.next c.args.now (Some c.in-Ok-Some.request) s.next (gains out asked) (gains out c.push.new.self.items)) (sym c.in_default.is)
     (silent site token id s.next c.args.now c.in-Ok-Some.request out asked c.push.new.self.items c.in_ok-push.ensures.items) in
-    rw (← c.self.view_is) (message_acts s.settings.now s.id s.agreed s.channel c.heard.new.channel s.half c.gather.new.half s.next s.next c.args.now p.flag (chunk_of p.fields) chunk p.kind (Some c.in-Ok-Some.request) (gains out asked) (gains out c.push.new.self.items)
+    rw (← c.self.view_is) (message_acts s.settings.now s.id s.agreed s.channel c.admitted_chunk.new.channel s.half c.gather.new.half s.next s.next c.args.now p.flag (chunk_of p.fields) chunk p.kind (Some c.in-Ok-Some.request) (gains out asked) (gains out c.push.new.self.items)
     c.self.invariant.same c.self.invariant.between is judged.0 judged.1.channel gathered.0 gathered.1 says)
 
 pub returns-in-Ok-None-clause-does : goal.returns-in-Ok-None-clause-does
@@ -59,5 +59,5 @@ returns-in-Ok-None-clause-does c =
     let is = chunk_of_flagged p.kind p.flag (chunk_of p.fields) chunk judged.1.chunk in
     let gathered = rw c.in-Ok-None.field-0-is at c.in-Ok-None.ensures.judged in
     let had = gains c.args.out.now.items c.args.asked.now.items in
-    rw (← c.self.view_is) (message_acts s.settings.now s.id s.agreed s.channel c.heard.new.channel s.half c.gather.new.half s.next s.next c.args.now p.flag (chunk_of p.fields) chunk p.kind None had had
+    rw (← c.self.view_is) (message_acts s.settings.now s.id s.agreed s.channel c.admitted_chunk.new.channel s.half c.gather.new.half s.next s.next c.args.now p.flag (chunk_of p.fields) chunk p.kind None had had
     c.self.invariant.same c.self.invariant.between is judged.0 judged.1.channel gathered.0 gathered.1 (no_answer (site_of s.settings.now s.id) s.agreed (most s.channel.channel.used chunk.chunk.token) chunk.chunk.request_id s.next c.args.now had))

@@ -1,7 +1,7 @@
 use Rattle.std.proofs.Common.{arith, rules}
 use Rattle.ua_variant.specs.View.{kind_of}
 use Rattle.ua_variant.proofs.NumberSteps.{number_ahead}
-use Rattle.ua_variant.proofs.number.number_ahead.Goals as goal
+use Rattle.ua_variant.proofs.reading.data.number_ahead.Goals as goal
 
 pub returns-then-number-le-LAST_NUMBER-clause-ahead : goal.returns-then-number-le-LAST_NUMBER-clause-ahead
 returns-then-number-le-LAST_NUMBER-clause-ahead c =

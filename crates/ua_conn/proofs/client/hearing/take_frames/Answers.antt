@@ -4,7 +4,7 @@ use Rattle.ua_frame.specs.Streams.{size_of}
 use Rattle.ua_conn.proofs.BufferedLemmas.{IsPush, pushed_on, push_within, nothing_behind}
 use Rattle.ua_conn.proofs.ClientEnd.FrontLemmas.{header_waits, waits_header}
 use Rattle.ua_conn.proofs.ClientEnd.FeedLemmas.{starts_with, waits_whole, reads_on, breaks, goes_on}
-use Rattle.ua_conn.proofs.client.hearing.hear.Goals as goal
+use Rattle.ua_conn.proofs.client.hearing.take_frames.Goals as goal
 
 pub frames-init : goal.frames-init
 frames-init c = record {

@@ -2,7 +2,7 @@ use Rattle.std.proofs.Common.{◌≡◌, Some, arith, rules}
 use Rattle.ua_variant.specs.Values.{without}
 use Rattle.ua_variant.specs.Reading.{behind_mask, within}
 use Rattle.ua_variant.proofs.Steps.{is_data_behind}
-use Rattle.ua_variant.proofs.reading.bare_data.Goals as goal
+use Rattle.ua_variant.proofs.reading.data.bare_data.Goals as goal
 
 pub of-requires : goal.of-requires
 of-requires c =

@@ -2,7 +2,7 @@ use Rattle.std.proofs.Common.{◌≡◌, w64, refl, sym, ap, ◌∙◌, inl, inr
 use Rattle.std.proofs.lemmas.Int.{to_z-of_z}
 use mir.Val.{SFits}
 use Rattle.ua_link.proofs.TurnLemmas.{ending_so, heard}
-use Rattle.ua_link.proofs.turn.answer.Goals as goal
+use Rattle.ua_link.proofs.turn.answer_read.Goals as goal
 
 pub returns-in_default-clause-heard : goal.returns-in_default-clause-heard
 returns-in_default-clause-heard g c = λ ps h e. inr (record {

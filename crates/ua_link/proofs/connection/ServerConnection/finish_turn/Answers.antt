@@ -3,7 +3,7 @@ use Rattle.ua_link.specs.Turns.{Seen}
 use Rattle.ua_link.specs.declared.connection.ReadyTurn.{ReadyTurn}
 use Rattle.ua_link.specs.Connections.{Shown, Judges, Leaves}
 use Rattle.ua_link.proofs.ConnectionLemmas.{spoken, leaves, broken, same_kept}
-use Rattle.ua_link.proofs.connection.ServerConnection.answer.Goals as goal
+use Rattle.ua_link.proofs.connection.ServerConnection.finish_turn.Goals as goal
 
 pub returns-in-Ok-clause-leaves : goal.returns-in-Ok-clause-leaves
 returns-in-Ok-clause-leaves g c = λ site turns cuts n begun s.

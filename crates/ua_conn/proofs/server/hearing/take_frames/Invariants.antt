@@ -1,6 +1,6 @@
 use Rattle.std.proofs.Common.{◌≡◌, ◌≤◌, ◌-◌, ◌+◌, ◌++◌, drop, length}
 use Rattle.ua_conn.specs.server.Feeding.{Hearing}
-use Rattle.ua_conn.proofs.server.hearing.hear.Given as goal
+use Rattle.ua_conn.proofs.server.hearing.take_frames.Given as goal
 
 abbrev pub invariant-frames : goal.invariant-frames
 invariant-frames l = record {

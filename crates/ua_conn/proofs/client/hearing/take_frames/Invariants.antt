@@ -1,6 +1,6 @@
 use Rattle.std.proofs.Common.{◌≡◌, ◌≤◌, ◌-◌, ◌+◌, ◌++◌, drop, length}
 use Rattle.ua_conn.specs.client.Hearing.{Hearing}
-use Rattle.ua_conn.proofs.client.hearing.hear.Given as goal
+use Rattle.ua_conn.proofs.client.hearing.take_frames.Given as goal
 
 abbrev pub invariant-frames : goal.invariant-frames
 invariant-frames l = record {
