@@ -218,11 +218,13 @@ fn data_within(alloc: Global, input: &[u8], allowance: u8) -> Result<(DataValue,
         return Err(ReadFault::Refused);
     };
     let mask = *mask;
-    match has_value(mask) {
-        None => Err(ReadFault::Refused),
-        Some(false) => bare_data(alloc, mask, rest),
-        Some(true) => valued_data(alloc, mask, rest, allowance - 1),
+    let Some(some) = has_value(mask) else {
+        return Err(ReadFault::Refused);
+    };
+    if !some {
+        return bare_data(alloc, mask, rest);
     }
+    valued_data(alloc, mask, rest, allowance - 1)
 }
 
 /// What follows the first byte of a DataValue without a value. It stands by itself, as the next does: where both meet, a

@@ -19,18 +19,18 @@ data::data_within-returns-then-allowance-eq0-clause-gives t c = no_data_level c.
 pub data::data_within-returns-in_default-clause-gives : goal.data::data_within-returns-in_default-clause-gives
 data::data_within-returns-in_default-clause-gives t c = no_mask c.args.allowance c.args.input.now (omega (arith, c.in_default.len_below))
 
-pub data::data_within-returns-in-None-clause-gives : goal.data::data_within-returns-in-None-clause-gives
-data::data_within-returns-in-None-clause-gives t c =
+pub data::data_within-returns-in_default-has_value-clause-gives : goal.data::data_within-returns-in_default-has_value-clause-gives
+data::data_within-returns-in_default-has_value-clause-gives t c =
     let step = one_data_level c.args.allowance c.args.input.now (omega arith) (omega (arith, c.in-len1-up.len_at_least)) in
     rw step (search rules)
 
-pub data::data_within-returns-in-Some-false-clause-gives : goal.data::data_within-returns-in-Some-false-clause-gives
-data::data_within-returns-in-Some-false-clause-gives t c =
+pub data::data_within-returns-then-not-some-clause-gives : goal.data::data_within-returns-then-not-some-clause-gives
+data::data_within-returns-then-not-some-clause-gives t c =
     let step = one_data_level c.args.allowance c.args.input.now (omega arith) (omega (arith, c.in-len1-up.len_at_least)) in
     rw step (search rules)
 
-pub data::data_within-returns-in-Some-true-clause-gives : goal.data::data_within-returns-in-Some-true-clause-gives
-data::data_within-returns-in-Some-true-clause-gives t c =
+pub data::data_within-returns-clause-gives : goal.data::data_within-returns-clause-gives
+data::data_within-returns-clause-gives t c =
     let step = one_data_level c.args.allowance c.args.input.now (omega arith) (omega (arith, c.in-len1-up.len_at_least)) in
     rw step c.valued_data.ensures.gives
 
