@@ -151,6 +151,7 @@ impl ServerChannel {
     /// channel; `BAD_SECURE_CHANNEL_TOKEN_UNKNOWN` where its token is not one of the two newest, or no longer alive;
     /// `BAD_SEQUENCE_NUMBER_INVALID` where its sequence number does not follow the last one. Nothing has changed then,
     /// and no moment is left behind.
+    #[inline(always)]
     pub fn admit(&mut self, chunk: &Chunk, now: i64) -> Result<(), u32>
         ensures refused { IfErr result (λ status.
             first_row (admit_rows self.old.channel chunk.now.chunk (max self.old.moment (moment_of now))) ≡ Some status) }

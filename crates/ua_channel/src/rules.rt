@@ -67,6 +67,7 @@ pub(crate) fn judge_open(is_other: bool, last: Option<u32>, chunk: &OpenChunk) -
 ///
 /// `Err` is the status of the first row that refuses it: message channel, token, message sequence number. OPC 10000-6,
 /// 6.7.2.3 and 6.7.2.4; OPC 10000-4, 5.6.2.1.
+#[inline(always)]
 pub(crate) fn judge(
     id: u32,
     tokens: Newest,

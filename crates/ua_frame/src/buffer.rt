@@ -95,6 +95,7 @@ impl FrameBuf {
     ///
     /// The status of the first thing that is wrong with the header, as [`frame_at`] judges it. The bytes are still held
     /// then.
+    #[inline(always)]
     pub fn first(&self, limit: u32) -> Result<Option<Frame<'_>>, u32>
         // The header decides, whether the rest of the frame is there or not.
         ensures refused { IfErr result (λ status. header_fault limit self.now.bytes ≡ Some status) }
