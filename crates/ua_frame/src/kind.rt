@@ -31,12 +31,11 @@ impl Kind {
         requires { length name.now ≡ 3 }
         ensures { result ≡ kind_of name.now }
     {
-        // Most frames are chunks of messages: their three bytes are compared as one number.
+        // Most frames are chunks of messages: these three bytes, `MSG`, are compared as one number, the least first.
         if u32::from_le_bytes([name[0], name[1], name[2], 0]) == 0x0047_534d {
             return Some(Kind::Message);
         }
         match name {
-            b"MSG" => Some(Kind::Message),
             b"HEL" => Some(Kind::Hello),
             b"ACK" => Some(Kind::Acknowledge),
             b"ERR" => Some(Kind::Error),
