@@ -32,7 +32,7 @@ impl Kind {
         ensures { result ≡ kind_of name.now }
     {
         // Most frames are chunks of messages: these three bytes, `MSG`, are compared as one number, the least first.
-        if u32::from_le_bytes([name[0], name[1], name[2], 0]) == 0x0047_534d {
+        if u32::from_le_bytes([name[0], name[1], name[2], 0]) == u32::from_le_bytes(*b"MSG\0") {
             return Some(Kind::Message);
         }
         match name {
