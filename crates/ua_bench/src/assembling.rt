@@ -1,6 +1,6 @@
 //! Messages put together and cut.
 
-ghost use Rattle.std.specs.Prelude.{◌≡◌, false, OnOk};
+ghost use Rattle.std.specs.Prelude.{◌≡◌, ◌+◌, ◌≤◌, length, false, OnOk, IfOk, IfSome};
 ghost use Rattle.ua_frame.specs.declared.kind.Kind.TheVariants.{Message};
 
 use crate::giving::{BAD, NO_MEMORY, REFUSED, counted, give};
@@ -45,27 +45,22 @@ fn assembled_once(
     };
     let mut total = 0usize;
     let mut rest = input;
-    for _ in 0..input.len() {
-        match frame_at(rest, LONGEST_FRAME) {
-            Err(_) => return Err(REFUSED),
-            Ok(None) => break,
-            Ok(Some(frame)) => {
-                total = total.wrapping_add(add(&mut assembly, &frame, out)?);
-                rest = behind(rest, frame.fields().len());
-            }
-        }
+    'frames: while let Some(frame) = frame_in(rest)? {
+        total = total.wrapping_add(add(&mut assembly, &frame, out)?);
+        rest = &rest[frame.len() as usize..];
     }
     Ok(total)
 }
 
-/// What lies behind a frame with fields of that length.
-fn behind(bytes: &[u8], len: usize) -> &[u8] {
-    let size = len.saturating_add(8);
-    if bytes.len() < size {
-        return &[];
+/// The frame at the front, where a whole one is there.
+#[inline(always)]
+fn frame_in(bytes: &[u8]) -> Result<Option<Frame<'_>>, i64>
+    ensures { IfOk result (λ found. IfSome found (λ frame. 8 + length frame.fields ≤ length bytes.now)) }
+{
+    match frame_at(bytes, LONGEST_FRAME) {
+        Ok(found) => Ok(found),
+        Err(_) => Err(REFUSED),
     }
-    let (_, rest) = bytes.split_at(size);
-    rest
 }
 
 /// Joins the chunks of messages, `repeat` times.
