@@ -111,13 +111,16 @@ fn emit_items<S: Sink>(items: &[Element], out: &mut S) -> Result<(), NoMemory>
     Ok(())
 }
 
-/// Puts an element of a list: a number in line, any other by a call.
+/// Puts an element of a list: a number in line, a text by a call of its own, any other by the call for all kinds.
 #[cycle(emit)]
 #[inline(always)]
 fn emit_one<S: Sink>(item: &Element, out: &mut S) -> Result<(), NoMemory>
     ensures ok { OnOk result (S.contents out.new ≡ S.contents out.old ++ element_canon (element item.now)) }
     ensures err { OnErr result (AppendsPart (S.contents out.old) (S.contents out.new) (element_canon (element item.now))) }
 {
+    if let Element::String(text) = item {
+        return text.emit(out);
+    }
     match put_number(item, out) {
         Some(put) => put,
         None => emit_element(item, out),
