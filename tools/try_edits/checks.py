@@ -165,7 +165,13 @@ def path_of_proofs(folder, answer, verdicts):
     """The function that an answer is for. A cycle of calls has one folder, +NAME, and names each answer for its member first."""
     if not folder[-1].startswith("+"):
         return folder
-    members = [it for it in verdicts if it[: len(folder) - 1] == folder[:-1] and answer.startswith(it[-1] + "-")]
+    above = len(folder) - 1
+
+    def is_named(it):
+        # (with the modules and the type that it stands in, below the folder's module, or without: `data::each_data`)
+        return any(answer.startswith("::".join(it[at:]) + "-") for at in range(above, len(it)))
+
+    members = [it for it in verdicts if it[:above] == folder[:-1] and is_named(it)]
     return max(members, key=lambda it: len(it[-1]), default=(*folder[:-1], folder[-1][1:]))
 
 
