@@ -7,7 +7,7 @@ import subprocess
 import tempfile
 import threading
 
-from try_edits.edits import functions_of, key_of, may_share, read, sources, write
+from try_edits.edits import functions_of, is_owner, key_of, may_share, module_of, proof_file_of, proofs_of, read, sources, write
 
 PARTS = ("src", "specs", "proofs")
 HARMLESS = "let _harmless = 0u8;"
@@ -50,9 +50,9 @@ class Repository:
     def out(self, crate):
         return f"{self.top}/crates/{crate.name}/out"
 
-    def run(self, crate, verb, *more):
+    def run(self, crate, used, verb, *more):
         """Runs a verb of `rt` for a crate, and returns the exit status and what was said."""
-        return ran(f"{self.top}/crates/{crate.name}", "rt", verb, *more)
+        return ran(crate, f"{self.top}/crates/{crate.name}", used, "rt", verb, *more)
 
 
 class Rooms:
@@ -61,6 +61,7 @@ class Rooms:
     def __init__(self, anew):
         self.top, self.anew = tempfile.mkdtemp(prefix="try-edits-"), anew
         self.outs, self.lanes, self.count, self.lock = {}, [], 0, threading.Lock()
+        self.proofs, self.batches = Used(), Used()
 
     def prove(self, crate, is_library, jobs):
         """Proves a crate as it stands, over what is kept of it, and builds its library where one above stands on it. Each has a
@@ -71,9 +72,9 @@ class Rooms:
             room.add(it, self.outs[it.name])
         room.add(crate, None if self.anew else f"{crate.folder}/out")
         self.outs[crate.name] = room.out(crate)
-        status, said = room.run(crate, "lib", "--jobs", str(jobs)) if is_library else (0, "")
+        status, said = room.run(crate, self.proofs, "lib", "--jobs", str(jobs)) if is_library else (0, "")
         if status == 0 and crate.places and verdicts_of(said) is None:
-            status, said = room.run(crate, "check", "--jobs", str(jobs))
+            status, said = room.run(crate, self.proofs, "check", "--jobs", str(jobs))
         return status, said
 
     def check(self, crate, texts, *more):
@@ -84,7 +85,7 @@ class Rooms:
                 lane.add(it, self.outs[it.name])
         for file, text in texts.items():
             write(f"{lane.top}/crates/{crate.name}/{file}", text)
-        status, said = lane.run(crate, "check", *more)
+        status, said = lane.run(crate, self.batches, "check", *more)
         for file in texts:
             shutil.copy2(f"{crate.folder}/{file}", f"{lane.top}/crates/{crate.name}/{file}")
         shutil.rmtree(lane.out(crate), ignore_errors=True)
@@ -109,14 +110,30 @@ class Stopped(Exception):
 RUNNING, STOPPING = set(), threading.Event()
 
 
-def ran(folder, *words):
-    """Runs a command in a crate's folder, and returns its exit status and what it wrote."""
+class Used:
+    """The seconds of a processor that commands took."""
+
+    def __init__(self):
+        self.seconds, self.lock = 0.0, threading.Lock()
+
+    def add(self, crate, usage):
+        """Adds what a command took, and notes with its crate the most memory of one process, in bytes."""
+        with self.lock:
+            self.seconds += usage.ru_utime + usage.ru_stime
+            crate.memory = max(crate.memory, 1024 * usage.ru_maxrss)
+
+
+def ran(crate, folder, used, *words):
+    """Runs a command in a crate's folder, adds what it took, and returns its exit status and what it wrote."""
     if STOPPING.is_set():
         raise Stopped
-    runs = subprocess.Popen(words, cwd=folder, stdin=subprocess.DEVNULL, stdout=subprocess.PIPE, stderr=subprocess.STDOUT)
-    RUNNING.add(runs)
-    said, _ = runs.communicate()
+    with subprocess.Popen(words, cwd=folder, stdin=subprocess.DEVNULL, stdout=subprocess.PIPE, stderr=subprocess.STDOUT) as runs:
+        RUNNING.add(runs)
+        said = runs.stdout.read()
+        _, status, usage = os.wait4(runs.pid, 0)
+        runs.returncode = os.waitstatus_to_exitcode(status)
     RUNNING.discard(runs)
+    used.add(crate, usage)
     if STOPPING.is_set():
         raise Stopped
     return runs.returncode, said.decode("utf-8", "replace")
@@ -198,6 +215,16 @@ def why_refused(verdict):
     return "name" if verdict.errors else None
 
 
+def what_refused(verdicts):
+    """What refused a place, by these verdicts: its kind (the heaviest that one of them has), and the names of the goals, or the errors."""
+    for kind in ("goal", "proof file", "name"):
+        of_kind = [it for it in verdicts if why_refused(it) == kind]
+        if of_kind:
+            said = {text for it in of_kind for text in (it.goals if kind == "goal" else (": ".join(error) for error in it.errors))}
+            return kind, sorted(said)
+    return None, []
+
+
 def of_arm(verdict, variant, others):
     """What a verdict says of an arm of a `match`: its goals, whose names have the steps to them, and the errors in their answers. Those
     on whose way one of the other arms is are not among them."""
@@ -207,27 +234,6 @@ def of_arm(verdict, variant, others):
         return variant in steps and not others & steps
 
     return verdict._replace(goals={*filter(is_of_it, verdict.goals)}, errors=[it for it in verdict.errors if is_of_it(it[0])])
-
-
-def module_of(file):
-    parts = file[len("src/") : -len(".rt")].split("/")
-    return tuple(parts[:-1] if parts[-1] in ("lib", "main", "mod") else parts)
-
-
-def in_names(text):
-    """A type or a trait as the prover's names have it, without its parameters: `u32` is `U32`."""
-    found = re.match(r"\s*(?:[\w:]+::)?(\w+)", text)
-    return found[1][:1].upper() + found[1][1:] if found else ""
-
-
-def is_owner(segment, owner):
-    """Whether a part of a path may be this `impl` or `trait`."""
-    text = re.sub(r"\A(impl|trait)(?:<(?:[^<>]|<[^<>]*>)*>)?\s*", "", owner)
-    trait, is_trait, of = text.partition(" for ")
-    if not is_trait:
-        return segment == in_names(text)
-    parts = in_names(trait) + "".join(map(in_names, re.findall(r"<(\w+)>", trait)))
-    return segment.startswith(in_names(of)) and segment.endswith((in_names(trait), parts))
 
 
 def paths_of(function, verdicts):
@@ -251,14 +257,6 @@ def only_of(batch, control, verdicts):
     return [it for path in dict.fromkeys(path for paths in named for path in paths) for it in ("--only", "::".join(path))]
 
 
-REFUSED_BY_CI = re.compile(r"^rt: must-fail (\w+)/(\S+)\.edit: refused, as it must be(?! \(only)", re.M)
-
-
-def refused_by_ci(path):
-    """The edits of must-fail/ that `rt ci` said are refused, by crate and name; not those refused only for a name or a limit."""
-    return {*REFUSED_BY_CI.findall(read(path))}
-
-
 class Checked:
     """A check of a batch: the texts that were changed, and what was said."""
 
@@ -279,10 +277,12 @@ class Checked:
                 paths.append(path)
         return {path: why for path, why in self.refused().items() if path in paths}
 
-    def refused_in_arm(self, function, variant, others):
-        """The same of an arm of it, where other arms of the `match` are changed too."""
-        found = {path: why_refused(of_arm(self.verdicts[path], variant, others)) for path in self.refused_in(function)}
-        return {path: why for path, why in found.items() if why}
+    def verdicts_in(self, place, others):
+        """The verdicts of what is refused in the functions that a place changes, of its arm alone where the others change other arms of
+        the `match`; of all that is refused where it changes no function."""
+        paths = {path for it in place.functions for path in self.refused_in(it)} if place.functions else {*self.refused()}
+        found = [self.verdicts[path] for path in sorted(paths)]
+        return [of_arm(it, place.arm.variant, others) for it in found] if others else found
 
 
 # (a capital begins what makes a value, as `Some(`)
@@ -291,8 +291,7 @@ CALLS = re.compile(r"\b[a-z_]\w*\(|[?!\[]|\bfor\b")
 
 def is_proved_by_itself(crate, function):
     """Whether a function may be a control: it has a body of its own lines, is no test, and has no proof file."""
-    proofs = f"{crate.folder}/proofs/{'/'.join(module_of(function.file))}"
-    return function.first < function.last and not re.search(r"\btests?\b", function.file) and not has_proofs(proofs, function.name)
+    return function.first < function.last and not re.search(r"\btests?\b", function.file) and not any(proofs_of(crate, function))
 
 
 def bodies_of(crate):
@@ -348,10 +347,6 @@ def with_controls(crate, batches):
     return batches
 
 
-def has_proofs(folder, name):
-    return any(os.path.basename(at) == name for at, _, _ in os.walk(folder))
-
-
 def texts_of(crate, batch, control):
     """The changed files of a batch by path, its control among them. A batch of more than one place has one pair in each."""
     if len(batch) == 1:
@@ -364,11 +359,31 @@ def texts_of(crate, batch, control):
         changes = [change_of(crate, pair) for place in batch for pair in place.pairs]
     if control:
         changes.append(harmless_change(crate, control, texts))
+    for pair in (pair for place in batch for pair in place.pairs if pair.answers):
+        texts |= answered(crate, batch, pair, texts)
     # (from the end on, so that what stands before keeps its place)
     for file, begins, ends, text in sorted(changes, reverse=True):
         source = texts.get(file) or read(f"{crate.folder}/{file}")
         texts[file] = source[:begins] + text + source[ends:]
     return texts
+
+
+def answered(crate, batch, pair, texts):
+    """The proof file of the function that a pair changes, with its answers: `NEW from OLD` gives the answer of a goal to another one (OLD
+    goes, unless it is given to itself too), `NEW PARAMETERS = TERM` is one of its own."""
+    function = next(it for place in batch if pair in place.pairs for it in place.functions)
+    file = proof_file_of(crate, function)
+    blocks = re.split(r"^(?=(?:abbrev )?pub )", texts.get(file) or read(f"{crate.folder}/{file}"), flags=re.M)
+    named = {re.match(r"(?:abbrev )?pub (\S+)", it)[1]: it for it in blocks[1:]}
+    moved = [it.split(" from ") for it in pair.answers if " from " in it]
+    taken = {old: named.pop(old) for _, old in moved if old in named}
+    for new, old in moved:
+        named[new] = re.sub(rf"(?<![\w-]){re.escape(old)}(?![\w-])", new, taken.get(old, ""))
+    for it in pair.answers:
+        if " from " not in it:
+            name = it.split()[0]
+            named[name] = f"pub {name} : goal.{name}\n{it}\n\n"
+    return {file: blocks[0] + "".join(named.values())}
 
 
 def change_of(crate, pair):

@@ -1,5 +1,6 @@
 """The crates of the repository, their functions, and the places that the edits of wrong bodies change."""
 import collections
+import functools
 import os
 import re
 import time
@@ -7,8 +8,8 @@ import time
 ROOT = os.path.dirname(os.path.dirname(os.path.dirname(os.path.realpath(__file__))))
 FOLDERS = ("must-fail", "wrong-bodies")
 
-# One change of an edit.
-Pair = collections.namedtuple("Pair", "file old new")
+# One change of an edit, and the answers that it brings along.
+Pair = collections.namedtuple("Pair", "file old new answers")
 # A function, what it stands in (`impl Wire for u32`), and the numbers of its lines: the first, that with the brace of its body, the last.
 Function = collections.namedtuple("Function", "file name owner first body last")
 # What is judged as one: some pairs of an edit, the line of the first, and the functions that they change. A `const` that functions
@@ -37,8 +38,10 @@ class Crate:
         self.folder = f"{ROOT}/crates/{self.name}"
         self.is_program = os.path.isfile(f"{self.folder}/src/main.rt")
         self.above, self.below = [], []
-        self.places, self.lines = [], []
-        self.passed = self.failed = self.open = 0
+        self.places, self.lines, self.found = [], [], []
+        self.passed = self.failed = self.open = self.memory = 0
+        # The texts as a number; whether all its places are tried; the entry of the record of which one batch is tried anew.
+        self.digest, self.is_whole, self.drawn = None, False, None
         self.started = time.time()
 
     def length(self):
@@ -109,15 +112,19 @@ def body_of(lines, at, indent):
 
 
 def pairs_of(text):
-    file = old = None
+    """The pairs of an edit, each with the answers that stand behind it."""
+    found, file, old = [], None, None
     for line in text.split("\n"):
         if line.startswith("file: "):
             file = line[len("file: ") :].strip()
         elif line.startswith("old: "):
             old = line[len("old: ") :]
         elif line.startswith("new:"):
-            yield Pair(file, old, re.sub(r"\A ", "", line[len("new:") :]))
+            found.append(Pair(file, old, re.sub(r"\A ", "", line[len("new:") :]), ()))
             old = None
+        elif line.startswith("answer: ") and found:
+            found[-1] = found[-1]._replace(answers=(*found[-1].answers, line[len("answer: ") :]))
+    return found
 
 
 def function_at(functions, line, pair):
@@ -173,7 +180,7 @@ def readers_of(crate, pair):
 
 def places_of(crate, edit):
     """The places of an edit, or why it cannot be applied."""
-    pairs, apart = list(pairs_of(read(edit))), "".join(APART.findall(read(edit)))
+    pairs, apart = pairs_of(read(edit)), "".join(APART.findall(read(edit)))
     texts, places, is_one, is_alone = {}, [], False, False
     if not pairs:
         return [], "it has no pair of old and new"
@@ -193,11 +200,63 @@ def places_of(crate, edit):
         readers, is_read_there_alone = ([function], True) if function else readers_of(crate, pair)
         is_alone = is_alone or not is_read_there_alone
         is_one = is_one or source.count(pair.old) != 1 or function is None
-        places.append(Place(edit, [pair], line, readers, False, arm_of(pair, source, line, function) if function else None, apart))
+        if pair.answers and not (function and proof_file_of(crate, function)):
+            return [], f"it has answers for {function.name if function else pair.file}, which has no proof file"
+        arm = arm_of(pair, source, line, function) if function and not pair.answers else None
+        places.append(Place(edit, [pair], line, readers, False, arm, apart))
     if not is_one:
         return places, None
     functions = list(dict.fromkeys(function for it in places for function in it.functions))
     return [Place(edit, pairs, places[0].line, functions, is_alone, None, apart)], None
+
+
+def module_of(file):
+    parts = file[len("src/") : -len(".rt")].split("/")
+    return tuple(parts[:-1] if parts[-1] in ("lib", "main", "mod") else parts)
+
+
+def in_names(text):
+    """A type or a trait as the prover's names have it, without its parameters: `u32` is `U32`."""
+    found = re.match(r"\s*(?:[\w:]+::)?(\w+)", text)
+    return found[1][:1].upper() + found[1][1:] if found else ""
+
+
+def is_owner(segment, owner):
+    """Whether a part of a path may be this `impl` or `trait`."""
+    text = re.sub(r"\A(impl|trait)(?:<(?:[^<>]|<[^<>]*>)*>)?\s*", "", owner)
+    trait, is_trait, of = text.partition(" for ")
+    if not is_trait:
+        return segment == in_names(text)
+    parts = in_names(trait) + "".join(map(in_names, re.findall(r"<(\w+)>", trait)))
+    return segment.startswith(in_names(of)) and segment.endswith((in_names(trait), parts))
+
+
+@functools.cache
+def proof_folders(folder):
+    """The folders below proofs/ that have what is written of a proof, each with its parts and, of a cycle of calls, its text."""
+    found = []
+    for at, folders, names in os.walk(f"{folder}/proofs"):
+        folders.sort()
+        if {*names} & {"Answers.antt", "Invariants.antt", "Proof.antt"}:
+            parts = tuple(os.path.relpath(at, f"{folder}/proofs").split("/"))
+            found.append((at, parts, "".join(read(f"{at}/{it}") for it in names) if parts[-1].startswith("+") else ""))
+    return found
+
+
+def proofs_of(crate, function):
+    """The folders of what is written of the proof of a function: its own, or that of the cycle of calls that it is in."""
+    module, name = module_of(function.file), function.name
+    for at, parts, text in proof_folders(crate.folder):
+        if parts[-1] == name and (is_owner(parts[-2], function.owner) if function.owner and len(parts) > 1 else parts[:-1] == module):
+            yield at
+        elif parts[-1] == f"+{name}" or text and re.search(rf"(?:::|\b){name}-", text):
+            yield at
+
+
+def proof_file_of(crate, function):
+    """The file with the answers of a function, below its crate; none where it has none."""
+    found = [f"{it}/Answers.antt" for it in proofs_of(crate, function) if os.path.isfile(f"{it}/Answers.antt")]
+    return os.path.relpath(found[0], crate.folder) if found else None
 
 
 def edits_of(crate):

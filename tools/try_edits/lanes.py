@@ -2,12 +2,20 @@
 import collections
 import os
 import re
+import time
 from concurrent.futures import FIRST_COMPLETED, ThreadPoolExecutor, wait
 
+# What `rt ci` is planned with a lane: it is told how many crates at once, and not how large they are.
 GIGABYTES_A_LANE = 4
 
-# What waits for the tasks named in `after`, and runs the earlier the heavier it is, in more than one lane where it can use that.
-Task = collections.namedtuple("Task", "name after weight takes_more run")
+# What waits for the tasks named in `after`, runs the earlier the heavier it is, in more than one lane where it can use that, and needs so
+# much memory in each, in bytes.
+Task = collections.namedtuple("Task", "name after weight memory takes_more run")
+
+
+def memory_of(functions):
+    """What a check of a crate with so many functions takes at the most, in bytes (docs/GATE.md, "Memory")."""
+    return 0.8e9 + 9e6 * functions
 
 
 class Width:
@@ -17,25 +25,41 @@ class Width:
         self.number = number
 
     def widen(self, *_):
-        """Takes all processors, as far as memory is free for more checks than run."""
-        more = int(free_memory() / GIGABYTES_A_LANE / 1e9)
-        self.number = max(self.number, min(processors(), self.number + more))
+        """Takes all processors."""
+        self.number = max(self.number, processors())
+
+
+class Begun:
+    """What began in the last minute, and has not yet taken the memory that it needs."""
+
+    def __init__(self):
+        self.tasks = []
+
+    def has_room(self, task):
+        """Whether a task fits what is free, less what those that just began will take."""
+        self.tasks = [it for it in self.tasks if it[0] > time.monotonic() - 60]
+        return task.memory <= free_memory() - sum(memory for _, memory in self.tasks)
+
+    def add(self, task, jobs):
+        self.tasks.append((time.monotonic(), task.memory * jobs))
 
 
 def run_in_lanes(width, tasks):
-    """Runs tasks side by side, the heaviest first, each once those that it waits for have ended. A task gives the tasks that come of it."""
-    left, running, ended = list(tasks), {}, set()
+    """Runs tasks side by side, the heaviest first, each once those that it waits for have ended and its memory is free (or nothing else
+    runs). A task gives the tasks that come of it."""
+    left, running, ended, begun = list(tasks), {}, set(), Begun()
     with ThreadPoolExecutor(max(width.number, processors())) as pool:
         while left or running:
             ready = sorted((it for it in left if ended.issuperset(it.after)), key=lambda it: -it.weight)
             for at, task in enumerate(ready):
                 free = width.number - sum(jobs for _, jobs in running.values())
-                if free <= 0:
-                    break
+                if free <= 0 or running and not begun.has_room(task):
+                    continue
                 jobs = max(1, min(4, free // (len(ready) - at))) if task.takes_more else 1
+                begun.add(task, jobs)
                 left.remove(task)
                 running[pool.submit(task.run, jobs)] = task, jobs
-            # (not for long, since there may be more lanes by then)
+            # (not for long, since there may be more lanes, or more memory, by then)
             for it in wait(running, timeout=10, return_when=FIRST_COMPLETED).done:
                 task, _ = running.pop(it)
                 ended.add(task.name)
