@@ -83,25 +83,33 @@ def of_tools():
     return [it for it in paths if it.endswith((".py", "HANDLES", "try-edits"))]
 
 
-def texts_for(crate, logic):
-    """The texts on which it depends whether the wrong bodies of a crate are refused, by name."""
-    texts = {"logic": logic, **{it: read(it) for it in of_tools()}}
+def texts_for(crate, logic, known):
+    """The texts on which it depends whether the wrong bodies of a crate are refused, by name; those that were read before are known."""
+
+    def take(path, is_whole=True):
+        if (path, is_whole) not in known:
+            known[path, is_whole] = read(path) if is_whole else without_bodies(read(path))
+        return known[path, is_whole]
+
+    texts = {"logic": logic, **{it: take(it) for it in of_tools()}}
     for it in [*crate.below, crate]:
         texts[f"{it.name}:"] = it.line
         for folder in ("src", "specs", "proofs", *(FOLDERS if it is crate else ())):
             for path in files_in(f"{it.folder}/{folder}"):
-                is_source = folder == "src" and path.endswith(".rt") and it is not crate
-                texts[path] = without_bodies(read(path)) if is_source else read(path)
+                texts[path] = take(path, it is crate or folder != "src" or not path.endswith(".rt"))
     return texts
 
 
-def digest_of(crate, logic):
-    """One number for all these texts, with their names (below the repository) and lengths."""
-    digest = hashlib.sha256()
-    for name, text in sorted(texts_for(crate, logic).items()):
-        bytes_of_it = text.encode()
-        digest.update(f"{os.path.relpath(name, ROOT) if name.startswith('/') else name} {len(bytes_of_it)}\n".encode() + bytes_of_it)
-    return digest.hexdigest()
+def digests_of(crates, logic):
+    """For each crate, by name, one number for all these texts, with their names (below the repository) and lengths."""
+    found, known = {}, {}
+    for crate in crates:
+        digest = hashlib.sha256()
+        for name, text in sorted(texts_for(crate, logic, known).items()):
+            bytes_of_it = text.encode()
+            digest.update(f"{os.path.relpath(name, ROOT) if name.startswith('/') else name} {len(bytes_of_it)}\n".encode() + bytes_of_it)
+        found[crate.name] = digest.hexdigest()
+    return found
 
 
 def uncommitted(crate):

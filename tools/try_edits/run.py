@@ -6,7 +6,7 @@ import time
 from try_edits.checks import Checked, control_of, only_of, paths_of, texts_of, verdicts_of, what_refused, with_controls
 from try_edits.edits import batches_of, edits_of, functions_of, key_of, proof_file_of, read, sources, title
 from try_edits.lanes import Task, memory_of
-from try_edits.record import Entry, digest_of, git, place_of, too_few, uncommitted
+from try_edits.record import Entry, digests_of, git, place_of, too_few, uncommitted
 
 # Above the weight of any batch: the last crate's batches wait for all proofs below it.
 PROOFS_FIRST = 10**9
@@ -194,7 +194,7 @@ class Run:
             self.record.whole = None
             return self.record.save(self.order)
         changed = uncommitted(crate)
-        if digest_of(crate, self.versions[1]) != crate.digest or changed:
+        if digests_of([crate], self.versions[1])[crate.name] != crate.digest or changed:
             crate.lines.append(f"-- {crate.name}: not written into wrong-bodies.passed, since this is not committed: {changed or 'what was tried'}")
         elif entry and too_few(entry, len(crate.found)):
             crate.failed += 1
