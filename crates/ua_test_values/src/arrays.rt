@@ -1,8 +1,8 @@
 //! Arrays: bytes and what they spell.
 
-use crate::spelling::{Shown, are_texts, is_made, is_whole};
 use crate::texts::Text;
 use std::alloc::Global;
+use ua_test_shared::spelling::{Shown, are_texts, is_made, is_whole};
 use ua_value::{Array, UaString};
 
 /// The items of an array of numbers, or none.

@@ -1,9 +1,9 @@
 //! The buffer that lends its frames.
 
-use crate::vectors::HELLO;
 use std::alloc::Global;
 use ua_frame::status::BAD_TCP_MESSAGE_TYPE_INVALID;
 use ua_frame::{FrameBuf, Kind};
+use ua_test_shared::vectors::HELLO;
 
 /// Whether the buffer begins with the Hello, whole.
 fn lends_hello(buffer: &FrameBuf) -> bool {

@@ -2,13 +2,11 @@
 //! asked for. These tests are run with their first growth refused, too (tools/refuse-growths).
 
 use crate::frames::AGREED;
-use crate::making::data_of;
-use crate::spelling::are_refused;
-use crate::vectors::ACKNOWLEDGE;
 use std::alloc::Global;
 use ua_frame::{Ack, frame_at};
+use ua_test_shared::spelling::are_refused;
+use ua_test_shared::vectors::ACKNOWLEDGE;
 use ua_value::{Array, DateTime, Guid, NodeId, StatusCode, UaBytes, UaString, Wire};
-use ua_variant::{DataValue, Variant};
 
 /// Whether the bytes are read as a value that equals this one, and so is a copy of it.
 fn is_read<T: Wire + PartialEq>(alloc: Global, bytes: &[u8], value: &T) -> bool {
@@ -61,19 +59,6 @@ fn nulls_are_read_without_memory(rt: HostRuntime) {
     assert!(rt; null_array_is_read(rt.alloc()));
 }
 
-/// Whether the DataValue of the null Variant is made.
-fn is_made() -> bool {
-    match data_of(Variant::null()) {
-        Ok(value) => value.depth() == 2,
-        Err(_) => false,
-    }
-}
-
-#[test]
-fn a_data_value_is_made_without_memory(rt: HostRuntime) {
-    assert!(rt; is_made());
-}
-
 fn is_acknowledge(bytes: &[u8]) -> bool {
     match frame_at(bytes, 28) {
         Ok(Some(frame)) => Ack::read(&frame) == Ok(AGREED),
@@ -100,25 +85,4 @@ fn counts_beyond_the_bytes_are_refused_without_memory(rt: HostRuntime) {
     assert!(rt; are_refused::<Array<UaString>>(alloc, &COUNTS));
     assert!(rt; are_refused::<UaString>(alloc, &COUNTS));
     assert!(rt; are_refused::<UaBytes>(alloc, &COUNTS));
-}
-
-/// Arrays of Int32, of Variants and of texts with dimensions.
-const VARIANTS: [&[u8]; 3] = [
-    &[0x86, 0, 0, 1, 0],
-    &[0x98, 3, 0, 0, 0, 0, 0],
-    &[0xcc, 0xff, 0xff, 0xff, 0x7f, 1],
-];
-
-/// The same as values of DataValues.
-const DATA: [&[u8]; 3] = [
-    &[0x01, 0x86, 0, 0, 1, 0],
-    &[0x03, 0x98, 3, 0, 0, 0, 0, 0],
-    &[0x01, 0xcc, 0xff, 0xff, 0xff, 0x7f, 1],
-];
-
-#[test]
-fn arrays_beyond_the_bytes_are_refused_without_memory(rt: HostRuntime) {
-    let alloc = rt.alloc();
-    assert!(rt; are_refused::<Variant>(alloc, &VARIANTS));
-    assert!(rt; are_refused::<DataValue>(alloc, &DATA));
 }

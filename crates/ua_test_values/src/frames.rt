@@ -3,13 +3,13 @@
 ghost use Rattle.std.specs.Prelude.{◌≡◌};
 ghost use Rattle.ua_frame.specs.Hello.{text_bytes};
 
-use crate::vectors::{ACKNOWLEDGE, HELLO};
 use std::alloc::{AllocError, Global};
 use ua_frame::status::{
     BAD_DECODING_ERROR, BAD_TCP_ENDPOINT_URL_INVALID, BAD_TCP_MESSAGE_TOO_LARGE,
     BAD_TCP_MESSAGE_TYPE_INVALID, BAD_TCP_NOT_ENOUGH_RESOURCES,
 };
 use ua_frame::{Ack, ErrorFrame, Frame, Hello, Kind, Limits, ReverseHello, frame_at, negotiate};
+use ua_test_shared::vectors::{ACKNOWLEDGE, HELLO};
 use ua_value::{ReadFault, UaString, ValueFault};
 
 pub(crate) const ERROR: &[u8] = b"ERRF\x10\0\0\0\0\0\x7E\x80\xFF\xFF\xFF\xFF";

@@ -4,67 +4,19 @@
 use crate::frames::{
     AGREED, ERROR, REVERSE_HELLO, TOLD, Written, error_of, hello_of, reverse_hello_of,
 };
-use crate::making::around;
-use crate::requests::{Header, Session, request_of};
-use crate::spelling::{Shown, is_behind, is_text};
 use crate::texts::{Content, Text};
-use crate::variants::{DATA, DIAGNOSTICS, Depth};
-use crate::vectors::{
-    ACKNOWLEDGE, CLOSE_REQUEST_BODY, ENDPOINTS_REQUEST_BODY, ENDPOINTS_RESPONSE_BODY,
-    FAULT_RESPONSE_BODY, FIND_REQUEST_BODY, FIND_RESPONSE_BODY, HELLO, OPEN_REQUEST_BODY,
-    OPEN_RESPONSE_BODY, OTHER_REQUEST_BODY,
-};
-use std::alloc::{AllocError, Global};
+use std::alloc::Global;
 use ua_frame::ErrorFrame;
 use ua_frame::status::BAD_TCP_MESSAGE_TYPE_INVALID;
-use ua_service::{
-    Body, CloseRequest, EndpointDescription, OpenRequest, OpenResponse, Request, RequestHeader,
-    Response,
+use ua_test_shared::memory::{
+    is_all_or_nothing, is_full_or_no_memory, is_shown_or_no_memory, is_written_or_no_memory,
 };
+use ua_test_shared::spelling::is_text;
+use ua_test_shared::vectors::{ACKNOWLEDGE, HELLO};
 use ua_value::{
     Array, ExpandedNodeId, Guid, LocalizedText, NodeId, QualifiedName, ReadFault, UaBytes,
-    UaString, ValueFault, Wire, XmlElement,
+    UaString, ValueFault, XmlElement,
 };
-use ua_variant::{DataValue, DiagnosticInfo, ExtensionObject, Variant, VariantFault};
-
-/// Whether what was written stands behind the byte before, all of it, or nothing where memory ran out.
-fn is_all_or_nothing(wrote: Result<(), AllocError>, out: &[u8], bytes: &[u8]) -> bool {
-    match wrote {
-        Ok(()) => is_behind(out, bytes),
-        Err(_) => is_behind(out, &[]),
-    }
-}
-
-/// Whether reading, copying and writing the value that the bytes spell goes all the way, or ends for want of memory, where the bytes are its
-/// canonical spelling. A vector that this test cannot make leaves nothing to see.
-pub(crate) fn is_full_or_no_memory<T: Wire>(alloc: Global, bytes: &[u8]) -> bool {
-    if bytes.len() > 1000 {
-        return false;
-    }
-    match T::read(alloc, bytes) {
-        Ok((value, used)) => {
-            used == bytes.len()
-                && is_written_or_no_memory(alloc, &value, bytes)
-                && is_copied_or_no_memory(alloc, &value, bytes)
-        }
-        Err(fault) => fault == ReadFault::NoMemory,
-    }
-}
-
-fn is_written_or_no_memory<T: Wire>(alloc: Global, value: &T, canon: &[u8]) -> bool {
-    let Ok(mut out) = [7].to_vec(alloc) else {
-        return true;
-    };
-    let wrote = value.write(&mut out);
-    is_all_or_nothing(wrote, out.as_slice(), canon)
-}
-
-fn is_copied_or_no_memory<T: Wire>(alloc: Global, value: &T, canon: &[u8]) -> bool {
-    match value.copy() {
-        Ok(copy) => is_written_or_no_memory(alloc, &copy, canon),
-        Err(_) => true,
-    }
-}
 
 #[test]
 fn texts_and_bytes_or_no_memory(rt: HostRuntime) {
@@ -167,137 +119,6 @@ fn guid_text(alloc: Global) -> String {
 fn guid_text_or_no_memory(rt: HostRuntime) {
     let text = guid_text(rt.alloc());
     assert!(rt; ["", "00000001-0002-0003-0404-040404040404"].contains(&text.as_str()));
-}
-
-const NESTED: &[u8] = &[
-    0xd8, 2, 0, 0, 0, 0x0f, 1, 0, 0, 0, 0xaa, 0x17, 0x01, 0x19, 0x40, 0, 1, 0, 0, 0, 2, 0, 0, 0,
-];
-
-const EXTENSIONS: [&[u8]; 2] = [
-    &[0, 0x48, 1, 2, 0, 0, 0, 0xaa, 0xbb],
-    &[3, 0, 0, 1, 0, 0, 0, b'a', 2, 1, 0, 0, 0, b'x'],
-];
-
-#[test]
-fn values_or_no_memory(rt: HostRuntime) {
-    let alloc = rt.alloc();
-    for bytes in &EXTENSIONS {
-        assert!(rt;
-            is_full_or_no_memory::<ExtensionObject>(alloc, bytes),
-            "{bytes:?}"
-        );
-    }
-    assert!(rt; is_full_or_no_memory::<DiagnosticInfo>(alloc, &DIAGNOSTICS));
-    assert!(rt; is_full_or_no_memory::<DataValue>(alloc, &DATA));
-    assert!(rt; is_full_or_no_memory::<Variant>(alloc, NESTED));
-}
-
-/// Whether what was made shows what is wanted, or memory ran out, of which this is the fault.
-fn is_shown_or_no_memory<T: Drop, F: PartialEq + Drop, W: Shown<T>>(
-    made: Result<T, F>,
-    want: &W,
-    no_memory: F,
-) -> bool {
-    match made {
-        Ok(value) => want.is_shown(&value),
-        Err(fault) => fault == no_memory,
-    }
-}
-
-#[test]
-fn nested_values_or_no_memory(rt: HostRuntime) {
-    let alloc = rt.alloc();
-    let inner = around(alloc, None).ok();
-    let depth = if inner.is_some() { 2 } else { 1 };
-    assert!(rt; is_shown_or_no_memory(around(alloc, inner), &Depth(depth), VariantFault::NoMemory));
-}
-
-/// Whether the body is read and written, as far as memory goes.
-fn is_body_or_no_memory<B: Body>(alloc: Global, body: &[u8]) -> bool {
-    if body.len() > 1000 {
-        return false;
-    }
-    match B::read_body(alloc, body) {
-        Ok(message) => is_body_written_or_no_memory(alloc, &message, body),
-        Err(fault) => fault == ReadFault::NoMemory,
-    }
-}
-
-fn is_body_written_or_no_memory<B: Body>(alloc: Global, message: &B, body: &[u8]) -> bool {
-    let Ok(mut out) = [7].to_vec(alloc) else {
-        return true;
-    };
-    let wrote = message.write_body(&mut out);
-    is_all_or_nothing(wrote, out.as_slice(), body)
-}
-
-#[test]
-fn messages_of_a_channel_or_no_memory(rt: HostRuntime) {
-    let alloc = rt.alloc();
-    assert!(rt; is_body_or_no_memory::<OpenRequest>(alloc, OPEN_REQUEST_BODY));
-    assert!(rt; is_body_or_no_memory::<OpenResponse>(alloc, OPEN_RESPONSE_BODY));
-    assert!(rt; is_body_or_no_memory::<CloseRequest>(alloc, CLOSE_REQUEST_BODY));
-}
-
-#[test]
-fn requests_or_no_memory(rt: HostRuntime) {
-    let alloc = rt.alloc();
-    assert!(rt; is_body_or_no_memory::<Request>(alloc, FIND_REQUEST_BODY));
-    assert!(rt; is_body_or_no_memory::<Request>(alloc, ENDPOINTS_REQUEST_BODY));
-    assert!(rt; is_body_or_no_memory::<Request>(alloc, OTHER_REQUEST_BODY));
-}
-
-#[test]
-fn responses_or_no_memory(rt: HostRuntime) {
-    let alloc = rt.alloc();
-    assert!(rt; is_body_or_no_memory::<Response>(alloc, FIND_RESPONSE_BODY));
-    assert!(rt; is_body_or_no_memory::<Response>(alloc, ENDPOINTS_RESPONSE_BODY));
-    assert!(rt; is_body_or_no_memory::<Response>(alloc, FAULT_RESPONSE_BODY));
-}
-
-fn is_request_copied_or_no_memory<B: Session>(alloc: Global, request: &B, body: &[u8]) -> bool {
-    match request.copied() {
-        Ok(copy) => is_body_written_or_no_memory(alloc, &copy, body),
-        Err(_) => true,
-    }
-}
-
-fn has_copy_or_no_memory<B: Session>(alloc: Global, body: &[u8]) -> bool {
-    if body.len() > 1000 {
-        return false;
-    }
-    match B::read_body(alloc, body) {
-        Ok(request) => is_request_copied_or_no_memory(alloc, &request, body),
-        Err(fault) => fault == ReadFault::NoMemory,
-    }
-}
-
-#[test]
-fn copies_of_requests_or_no_memory(rt: HostRuntime) {
-    let alloc = rt.alloc();
-    assert!(rt; has_copy_or_no_memory::<Request>(alloc, FIND_REQUEST_BODY));
-    assert!(rt; has_copy_or_no_memory::<Request>(alloc, ENDPOINTS_REQUEST_BODY));
-    assert!(rt; has_copy_or_no_memory::<Request>(alloc, OTHER_REQUEST_BODY));
-}
-
-/// The one endpoint of the response.
-#[test]
-fn copies_of_endpoints_or_no_memory(rt: HostRuntime) {
-    let endpoint = &ENDPOINTS_RESPONSE_BODY[32..];
-    assert!(rt; is_full_or_no_memory::<EndpointDescription>(rt.alloc(), endpoint));
-}
-
-fn is_made_or_no_memory<H: Header>(alloc: Global) -> bool {
-    match request_of::<H>(alloc, (0, 461), b"\xAA\xBB") {
-        Ok(Some(request)) => is_body_written_or_no_memory(alloc, &request, OTHER_REQUEST_BODY),
-        Ok(None) => false,
-        Err(fault) => fault == ReadFault::NoMemory,
-    }
-}
-
-#[test]
-fn other_requests_or_no_memory(rt: HostRuntime) {
-    assert!(rt; is_made_or_no_memory::<RequestHeader>(rt.alloc()));
 }
 
 fn is_frame_written_or_no_memory<W: Written>(alloc: Global, frame: &W, bytes: &[u8]) -> bool {

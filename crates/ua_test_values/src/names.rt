@@ -1,6 +1,6 @@
 //! Qualified names and localized texts: bytes and what they spell.
 
-use crate::spelling::{Shown, is_refused, is_text, is_whole, spells};
+use ua_test_shared::spelling::{Shown, is_refused, is_text, is_whole, spells};
 use ua_value::{LocalizedText, QualifiedName};
 
 struct Qualified;

@@ -1,7 +1,7 @@
 //! Node ids and expanded node ids: bytes and what they spell.
 
-use crate::spelling::{Shown, are_refused, is_text, is_whole, is_written, spells};
 use std::alloc::Global;
+use ua_test_shared::spelling::{Shown, are_refused, is_text, is_whole, is_written, spells};
 use ua_value::{ExpandedNodeId, Identifier, NodeId};
 
 /// A numeric id: its namespace and its number.

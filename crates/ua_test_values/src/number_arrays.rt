@@ -1,8 +1,9 @@
 //! Arrays of numbers: bytes and what they spell, for each type of numbers and for counts around those that go at a time.
 
-use crate::memory::is_full_or_no_memory;
-use crate::spelling::{Shown, is_refused, is_whole, joined};
 use std::alloc::Global;
+use ua_test_shared::bytes::both;
+use ua_test_shared::memory::is_full_or_no_memory;
+use ua_test_shared::spelling::{Shown, is_refused, is_whole};
 use ua_value::{Array, DateTime, DoubleBits, FloatBits, StatusCode, Wire};
 
 /// The items of an array.
@@ -20,7 +21,7 @@ impl<T: Wire + PartialEq> Shown<Array<T>> for Items<'_, T> {
 
 /// Whether the bytes behind their count spell the items, and no shorter beginning spells an array.
 fn is_array<T: Wire + PartialEq>(alloc: Global, count: u8, bytes: &[u8], items: &[T]) -> bool {
-    match joined(alloc, &[count, 0, 0, 0], bytes) {
+    match both(alloc, &[count, 0, 0, 0], bytes) {
         Ok(whole) => is_whole::<Array<T>, Items<T>>(alloc, &whole, &Items(items)),
         Err(_) => false,
     }
@@ -210,7 +211,7 @@ fn arrays_of_each_type_of_numbers(rt: HostRuntime) {
 
 /// Whether an array of nine items goes all the way, or ends for want of memory.
 fn is_full<T: Wire>(alloc: Global, bytes: &[u8]) -> bool {
-    match joined(alloc, &[9, 0, 0, 0], bytes) {
+    match both(alloc, &[9, 0, 0, 0], bytes) {
         Ok(whole) => is_full_or_no_memory::<Array<T>>(alloc, &whole),
         Err(_) => true,
     }

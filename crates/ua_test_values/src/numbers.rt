@@ -1,7 +1,7 @@
 //! Numbers, bits, moments, statuses and Guids: bytes and what they spell.
 
-use crate::spelling::{Shown, spells};
 use std::alloc::Global;
+use ua_test_shared::spelling::{Shown, spells};
 use ua_value::{DateTime, DoubleBits, FloatBits, Guid, StatusCode, Wire};
 
 /// An equal value.

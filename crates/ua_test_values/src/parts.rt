@@ -1,8 +1,8 @@
 //! The other public calls of values: constructors, what looks at a front, fields in order, the laws, and the texts of faults.
 
-use crate::spelling::{is_made, is_printed, is_written};
 use crate::texts::{Content, Text};
 use std::alloc::Global;
+use ua_test_shared::spelling::{is_made, is_printed, is_written};
 use ua_value::plumbing::{Fields, Parts, Raw, read_part, read_whole};
 use ua_value::{
     Array, NodeId, ReadFault, Sink, UaBytes, UaString, ValueFault, XmlElement, laws, peek_string,

@@ -1,7 +1,7 @@
 //! Strings, XML elements and byte strings: bytes and what they spell.
 
-use crate::spelling::{Any, Shown, is_refused, is_whole, spells};
 use std::alloc::Global;
+use ua_test_shared::spelling::{Any, Shown, is_refused, is_whole, spells};
 use ua_value::{Array, UaBytes, UaString, XmlElement};
 
 const NULL: &[u8] = &[0xff, 0xff, 0xff, 0xff];

@@ -1,8 +1,8 @@
 //! What is given back as it was taken, and what is made of plain values.
 
 use crate::making::is_made_as;
-use crate::spelling::is_printed;
 use std::alloc::Global;
+use ua_test_shared::spelling::is_printed;
 use ua_value::{StatusCode, UaString, XmlElement};
 use ua_variant::{Element, Kind, Variant};
 

@@ -5,9 +5,9 @@ ghost use Rattle.ua_value.specs.Text.{longest};
 ghost use Rattle.ua_variant.specs.Lists.{IsShortList};
 ghost use Rattle.ua_variant.specs.View.{items_in};
 
-use crate::spelling::{Shown, are_written, is_printed};
 use crate::variants::{DATA, DIAGNOSTICS};
 use std::alloc::Global;
+use ua_test_shared::spelling::{Shown, are_written, is_printed};
 use ua_value::{DateTime, NoMemory, StatusCode, UaString, Wire};
 use ua_variant::{DataValue, DiagnosticInfo, Element, Kind, Variant, VariantFault};
 

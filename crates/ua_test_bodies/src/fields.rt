@@ -1,6 +1,5 @@
 //! Structures with another value in each field.
 
-use crate::spelling::{Any, Shown, are_texts, is_bytes, is_text, is_whole, joined};
 use crate::vectors;
 use std::alloc::{AllocError, Global};
 use ua_service::{
@@ -8,6 +7,8 @@ use ua_service::{
     FindServersResponse, GetEndpointsRequest, GetEndpointsResponse, OpenRequest, OpenResponse,
     RequestHeader, ResponseHeader, ServiceFault, UserTokenPolicy, response_header,
 };
+use ua_test_shared::bytes::both;
+use ua_test_shared::spelling::{Any, Shown, are_texts, is_bytes, is_text, is_whole};
 use ua_value::{Identifier, Wire};
 use ua_variant::ExtensionBody;
 
@@ -49,7 +50,7 @@ impl<T: Sample> Shown<T> for IsSample {
 
 /// Whether the fields behind the front spell the sample.
 fn is_sample_of<T: Wire + Sample>(alloc: Global, front: &[u8], fields: &[u8]) -> bool {
-    match joined(alloc, front, fields) {
+    match both(alloc, front, fields) {
         Ok(bytes) => is_whole::<T, IsSample>(alloc, bytes.as_slice(), &IsSample),
         Err(_) => false,
     }
@@ -227,7 +228,7 @@ fn are_servers(alloc: Global) -> bool {
 }
 
 fn are_endpoints(alloc: Global) -> bool {
-    match joined(alloc, b"\x01\0\0\0", ENDPOINT) {
+    match both(alloc, b"\x01\0\0\0", ENDPOINT) {
         Ok(one) => is_sample_of::<GetEndpointsResponse>(alloc, RESPONSE_HEADER, one.as_slice()),
         Err(_) => false,
     }

@@ -1,9 +1,9 @@
 //! DataValues of each kind of number, for which there is a short way: by themselves, in the list of a Variant, in an array of their own;
 //! and those of a text, which go the long way.
 
-use crate::memory::is_full_or_no_memory;
-use crate::spelling::{Any, are_spelled, is_refused, is_whole, spells};
 use std::alloc::{AllocError, Global};
+use ua_test_shared::memory::is_full_or_no_memory;
+use ua_test_shared::spelling::{Any, are_spelled, is_refused, is_whole, spells};
 use ua_value::{Array, Wire};
 use ua_variant::{DataValue, Variant};
 

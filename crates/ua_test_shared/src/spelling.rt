@@ -1,16 +1,17 @@
 //! What tests of values share: whether bytes spell a value as every call of its type sees it.
 
-use std::alloc::{AllocError, Global};
+use std::alloc::Global;
 use std::fmt::Display;
 use ua_value::{Array, ReadFault, UaBytes, UaString, Wire};
 
 /// What a value is to show.
-pub(crate) trait Shown<T> {
+pub trait Shown<T> {
+    /// Whether the value shows it.
     fn is_shown(&self, value: &T) -> bool;
 }
 
 /// Whatever it is.
-pub(crate) struct Any;
+pub struct Any;
 
 impl<T> Shown<T> for Any {
     fn is_shown(&self, _value: &T) -> bool {
@@ -20,7 +21,7 @@ impl<T> Shown<T> for Any {
 
 /// Whether the bytes begin with a value that takes so many of them and shows what is wanted: `canon` is written for it, also behind other bytes and
 /// for a copy, and no shorter beginning spells a value.
-pub(crate) fn spells<T: Wire, W: Shown<T>>(
+pub fn spells<T: Wire, W: Shown<T>>(
     alloc: Global,
     bytes: &[u8],
     used: usize,
@@ -31,7 +32,7 @@ pub(crate) fn spells<T: Wire, W: Shown<T>>(
 }
 
 /// The same where all bytes are of the value, and are what is written for it.
-pub(crate) fn is_whole<T: Wire, W: Shown<T>>(alloc: Global, bytes: &[u8], want: &W) -> bool {
+pub fn is_whole<T: Wire, W: Shown<T>>(alloc: Global, bytes: &[u8], want: &W) -> bool {
     spells::<T, W>(alloc, bytes, bytes.len(), bytes, want)
 }
 
@@ -68,12 +69,12 @@ fn has_no_shorter<T: Wire>(alloc: Global, bytes: &[u8], used: usize) -> bool {
 }
 
 /// Whether no beginning of the bytes spells a value.
-pub(crate) fn is_refused<T: Wire>(alloc: Global, bytes: &[u8]) -> bool {
+pub fn is_refused<T: Wire>(alloc: Global, bytes: &[u8]) -> bool {
     bytes.len() <= 1000 && matches!(T::read(alloc, bytes), Err(ReadFault::Refused))
 }
 
 /// Whether none of the bytes begin with a value.
-pub(crate) fn are_refused<T: Wire>(alloc: Global, rows: &[&[u8]]) -> bool {
+pub fn are_refused<T: Wire>(alloc: Global, rows: &[&[u8]]) -> bool {
     let mut all = true;
     for bytes in rows {
         if !is_refused::<T>(alloc, bytes) {
@@ -84,7 +85,7 @@ pub(crate) fn are_refused<T: Wire>(alloc: Global, rows: &[&[u8]]) -> bool {
 }
 
 /// Whether each of the bytes spell a value for which the others are written.
-pub(crate) fn are_spelled<T: Wire>(alloc: Global, rows: &[(&[u8], &[u8])]) -> bool {
+pub fn are_spelled<T: Wire>(alloc: Global, rows: &[(&[u8], &[u8])]) -> bool {
     let mut all = true;
     for (bytes, canon) in rows {
         if !spells::<T, Any>(alloc, bytes, bytes.len(), canon, &Any) {
@@ -95,12 +96,12 @@ pub(crate) fn are_spelled<T: Wire>(alloc: Global, rows: &[(&[u8], &[u8])]) -> bo
 }
 
 /// Whether the bytes are written for the value and for a copy of it.
-pub(crate) fn are_written<T: Wire>(alloc: Global, value: &T, canon: &[u8]) -> bool {
+pub fn are_written<T: Wire>(alloc: Global, value: &T, canon: &[u8]) -> bool {
     is_written(alloc, value, canon) && is_copied(alloc, value, canon)
 }
 
 /// Whether the bytes are written for the value, behind what was there.
-pub(crate) fn is_written<T: Wire>(alloc: Global, value: &T, canon: &[u8]) -> bool {
+pub fn is_written<T: Wire>(alloc: Global, value: &T, canon: &[u8]) -> bool {
     let Ok(mut out) = [7].to_vec(alloc) else {
         return false;
     };
@@ -118,7 +119,7 @@ fn is_copied<T: Wire>(alloc: Global, value: &T, canon: &[u8]) -> bool {
 }
 
 /// Whether it was made, and shows what is wanted.
-pub(crate) fn is_made<T: Drop, E: Drop, W: Shown<T>>(made: Result<T, E>, want: &W) -> bool {
+pub fn is_made<T: Drop, E: Drop, W: Shown<T>>(made: Result<T, E>, want: &W) -> bool {
     match made {
         Ok(value) => want.is_shown(&value),
         Err(_) => false,
@@ -126,7 +127,7 @@ pub(crate) fn is_made<T: Drop, E: Drop, W: Shown<T>>(made: Result<T, E>, want: &
 }
 
 /// Whether the value is printed as the text.
-pub(crate) fn is_printed<T: Display + Drop>(alloc: Global, value: T, text: &str) -> bool {
+pub fn is_printed<T: Display + Drop>(alloc: Global, value: T, text: &str) -> bool {
     match format!(in alloc; "{value}") {
         Ok(printed) => printed.as_str() == text,
         Err(_) => false,
@@ -134,26 +135,22 @@ pub(crate) fn is_printed<T: Display + Drop>(alloc: Global, value: T, text: &str)
 }
 
 /// Whether the bytes stand behind the one that was there before.
-pub(crate) fn is_behind(out: &[u8], bytes: &[u8]) -> bool {
+pub fn is_behind(out: &[u8], bytes: &[u8]) -> bool {
     out.strip_prefix([7].as_slice()) == Some(bytes)
 }
 
-pub(crate) fn joined(alloc: Global, front: &[u8], behind: &[u8]) -> Result<Vec<u8>, AllocError> {
-    let mut bytes = front.to_vec(alloc)?;
-    bytes.extend_from_slice(behind)?;
-    Ok(bytes)
-}
-
-pub(crate) fn is_text(value: &UaString, text: &str) -> bool {
+/// Whether the value is the text.
+pub fn is_text(value: &UaString, text: &str) -> bool {
     value.get() == Some(text)
 }
 
-pub(crate) fn is_bytes(value: &UaBytes, bytes: &[u8]) -> bool {
+/// Whether the value is the bytes.
+pub fn is_bytes(value: &UaBytes, bytes: &[u8]) -> bool {
     value.get() == Some(bytes)
 }
 
 /// Whether these are the texts, all of them.
-pub(crate) fn are_texts(array: &Array<UaString>, texts: &[&str]) -> bool {
+pub fn are_texts(array: &Array<UaString>, texts: &[&str]) -> bool {
     match array.get() {
         Some(items) => items.len() == texts.len() && begin_with(items, texts),
         None => false,

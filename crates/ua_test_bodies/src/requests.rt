@@ -1,12 +1,12 @@
 //! Requests of other services, and copies of requests.
 
 use crate::bodies::{has_no_shorter, is_body, is_body_of};
-use crate::spelling::joined;
 use crate::vectors::{
     ENDPOINTS_REQUEST_BODY, FIND_REQUEST_BODY, OTHER_REQUEST_BODY, REQUEST_HEADER,
 };
 use std::alloc::Global;
 use ua_service::{Body, OtherRequest, Request, RequestHeader};
+use ua_test_shared::bytes::both;
 use ua_value::{Identifier, NoMemory, NodeId, ReadFault, Wire};
 
 /// The id of a request: its namespace and its number.
@@ -68,7 +68,7 @@ fn discovery_has_no_other_requests(rt: HostRuntime) {
 
 /// Whether a request without a rest is made under the id, and written with these bytes before its header.
 fn is_made_behind(alloc: Global, id: Id, bytes: &[u8]) -> bool {
-    match joined(alloc, bytes, REQUEST_HEADER) {
+    match both(alloc, bytes, REQUEST_HEADER) {
         Ok(body) => is_made::<RequestHeader>(alloc, id, b"", body.as_slice()),
         Err(_) => false,
     }
@@ -156,7 +156,7 @@ fn keeps<B: Session>(alloc: Global, bytes: &[u8], rest: &[u8]) -> bool {
 
 /// A rest of three bytes.
 fn keeps_more(alloc: Global) -> bool {
-    match joined(alloc, OTHER_REQUEST_BODY, &[0xCC]) {
+    match both(alloc, OTHER_REQUEST_BODY, &[0xCC]) {
         Ok(longer) => keeps::<Request>(alloc, longer.as_slice(), b"\xAA\xBB\xCC"),
         Err(_) => false,
     }
@@ -185,8 +185,8 @@ fn a_rest_is_kept(rt: HostRuntime) {
 /// Whether the id is read in front of a header, and written as the other one.
 fn is_read_in_front(alloc: Global, id: &[u8], canonical_id: &[u8]) -> bool {
     match (
-        joined(alloc, id, REQUEST_HEADER),
-        joined(alloc, canonical_id, REQUEST_HEADER),
+        both(alloc, id, REQUEST_HEADER),
+        both(alloc, canonical_id, REQUEST_HEADER),
     ) {
         (Ok(bytes), Ok(canon)) => is_body::<Request>(alloc, bytes.as_slice(), canon.as_slice()),
         _ => false,
@@ -227,7 +227,7 @@ fn has_a_copy<B: Session>(alloc: Global, body: &[u8]) -> bool {
 
 /// A request with a rest of a hundred bytes more.
 fn long_has_a_copy(alloc: Global) -> bool {
-    match joined(alloc, OTHER_REQUEST_BODY, &[0xCC; 100]) {
+    match both(alloc, OTHER_REQUEST_BODY, &[0xCC; 100]) {
         Ok(body) => has_a_copy::<Request>(alloc, body.as_slice()),
         Err(_) => false,
     }

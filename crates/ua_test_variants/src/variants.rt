@@ -1,6 +1,6 @@
 //! Extension objects, diagnostics, Variants and DataValues: bytes and what they spell.
 
-use crate::spelling::{Shown, are_refused, are_spelled, is_whole};
+use ua_test_shared::spelling::{Shown, are_refused, are_spelled, is_whole};
 use ua_value::{DateTime, StatusCode};
 use ua_variant::{DataValue, DiagnosticInfo, ExtensionObject, Kind, Variant};
 

@@ -4,8 +4,8 @@ use crate::making::{
     around, array_of_100, array_of_one, data_of, element_of, is_made_as, is_not_made, scalar_of,
     variant_of_99,
 };
-use crate::spelling::{Any, is_refused, is_whole};
 use std::alloc::{AllocError, Global};
+use ua_test_shared::spelling::{Any, is_refused, is_whole};
 use ua_value::{StatusCode, Wire};
 use ua_variant::{DataValue, DiagnosticInfo, Element, Kind, Variant, VariantFault};
 

@@ -1,12 +1,4 @@
-//! Frames and bodies of messages, as other programs write them.
-
-/// A Hello with buffers of 65535 bytes, no limits on messages, and a url.
-pub(crate) const HELLO: &[u8] =
-    b"HELF\x38\0\0\0\0\0\0\0\xFF\xFF\0\0\xFF\xFF\0\0\0\0\0\0\0\0\0\0\x18\0\0\0opc.tcp://localhost:4840";
-
-/// The Acknowledge of a server that takes and sends 65535 bytes, messages of 1048576 bytes and 64 chunks.
-pub(crate) const ACKNOWLEDGE: &[u8] =
-    b"ACKF\x1C\0\0\0\0\0\0\0\xFF\xFF\0\0\xFF\xFF\0\0\0\0\x10\0\x40\0\0\0";
+//! Bodies of messages, as other programs write them.
 
 /// A request for a channel and its first token.
 pub(crate) const OPEN_REQUEST_BODY: &[u8] =

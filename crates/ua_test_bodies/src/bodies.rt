@@ -1,6 +1,5 @@
 //! Whole bodies of messages, byte for byte.
 
-use crate::spelling::{are_texts, is_behind, is_text, joined};
 use crate::vectors::{
     CLOSE_REQUEST_BODY, ENDPOINTS_REQUEST_BODY, ENDPOINTS_RESPONSE_BODY, FAULT_RESPONSE_BODY,
     FIND_REQUEST_BODY, FIND_RESPONSE_BODY, OPEN_REQUEST_BODY, OPEN_RESPONSE_BODY,
@@ -12,6 +11,8 @@ use ua_service::{
     Request, Response, body_len, body_of, laws, read_close, read_open, read_open_response,
     read_request, read_response, write_body,
 };
+use ua_test_shared::bytes::both;
+use ua_test_shared::spelling::{are_texts, is_behind, is_text};
 use ua_value::ReadFault;
 
 const URL: &str = "opc.tcp://localhost:4840";
@@ -100,7 +101,7 @@ pub(crate) fn has_no_shorter<B: Body>(alloc: Global, body: &[u8]) -> bool {
 
 /// Whether it is no body with one byte more.
 fn is_no_longer<B: Body>(alloc: Global, body: &[u8]) -> bool {
-    match joined(alloc, body, &[0]) {
+    match both(alloc, body, &[0]) {
         Ok(longer) => is_no_body::<B>(alloc, longer.as_slice()),
         Err(_) => false,
     }
@@ -244,7 +245,7 @@ fn each_body_has_its_readers(rt: HostRuntime) {
 fn with_long_id(alloc: Global, body: &[u8]) -> Result<Vec<u8>, AllocError> {
     match body {
         [1, namespace, low, high, fields @ ..] => {
-            joined(alloc, &[2, *namespace, 0, *low, *high, 0, 0], fields)
+            both(alloc, &[2, *namespace, 0, *low, *high, 0, 0], fields)
         }
         _ => Ok(Vec::new(alloc)),
     }

@@ -1,8 +1,8 @@
 //! A sink with room for little: a DataValue of a number, which is put at once where there is room for all of it, is put
 //! part by part else.
 
-use crate::spelling::{Shown, is_whole};
 use std::alloc::{AllocError, Global};
+use ua_test_shared::spelling::{Shown, is_whole};
 use ua_value::{NoMemory, Sink, Wire};
 use ua_variant::DataValue;
 
