@@ -1,16 +1,16 @@
 //! Conversations in which the server opens the connection.
 
-use crate::bytes::joined;
-use crate::clients::CONFIG;
-use crate::lending::{by_default, by_settings, judged};
-use crate::reverse_clients::HELLO_TO_URL;
-use crate::telling::{Act, DOWN, Told, UP, is_told, steps_of};
-use crate::vectors::{
-    ACKNOWLEDGE, FIND_BODY, FIND_REQUEST, FIND_RESPONSE, OPEN_REQUEST, OPEN_RESPONSE, REVERSE_HELLO,
-};
+use crate::telling::{Act, CONFIG, DOWN, Told, UP, is_told, steps_of};
 use std::alloc::Global;
 use ua_conn::{ReverseFault, Setup, Step, Story, can_open, converse};
 use ua_disco::{DEFAULT, Settings};
+use ua_test_lent::{by_default, by_settings};
+use ua_test_shared::bytes::joined;
+use ua_test_shared::lending::judged;
+use ua_test_shared::vectors::{
+    ACKNOWLEDGE, FIND_BODY, FIND_REQUEST, FIND_RESPONSE, HELLO_TO_URL, OPEN_REQUEST, OPEN_RESPONSE,
+    REVERSE_HELLO,
+};
 use ua_value::UaString;
 
 /// What is told of these steps, where the server opens the connection; none where it can't, or memory ran out.

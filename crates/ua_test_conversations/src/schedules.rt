@@ -2,13 +2,13 @@
 
 ghost use Rattle.ua_conn.specs.BothEnds.{IsConfig};
 
-use crate::lending::{by_settings, kept};
-use crate::limits::hundred_endpoints;
 use crate::telling::{Act, OPENING, aborted, put_step, put_steps, story_of};
-use crate::vectors::{ENDPOINTS_BODY, FIND_BODY, OTHER_BODY};
 use std::alloc::Global;
 use ua_conn::{Answer, ClientConfig, End, Step, Story};
 use ua_disco::Settings;
+use ua_test_lent::{by_settings, hundred_endpoints};
+use ua_test_shared::lending::kept;
+use ua_test_shared::vectors::{ENDPOINTS_BODY, FIND_BODY, OTHER_BODY};
 
 /// How many schedules are drawn for each test, a thousand for all four, and how many steps each has behind the opening.
 const SCHEDULES: u32 = 250;

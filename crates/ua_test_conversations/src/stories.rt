@@ -2,19 +2,19 @@
 
 ghost use Rattle.ua_conn.specs.BothEnds.{IsConfig};
 
-use crate::clients::CONFIG;
-use crate::limits::{SMALL, chunks_of, four_chunks, hundred_endpoints};
-use crate::rows::Piece::{Bytes, Changed};
-use crate::rows::{Piece, made};
-use crate::telling::{Act, DOWN, Told, UP, tells, tells_pieces};
-use crate::vectors::{
+use crate::telling::{Act, CONFIG, DOWN, Told, UP, tells, tells_pieces};
+use std::alloc::{AllocError, Global};
+use ua_conn::ClientConfig;
+use ua_disco::DEFAULT;
+use ua_test_lent::hundred_endpoints;
+use ua_test_shared::parts::{SMALL, chunks_of, four_chunks};
+use ua_test_shared::pieces::Piece::{Bytes, Changed};
+use ua_test_shared::pieces::{Piece, made};
+use ua_test_shared::vectors::{
     ABORT_TOO_LARGE, ACKNOWLEDGE, ENDPOINTS_BODY, ENDPOINTS_REQUEST, ENDPOINTS_RESPONSE,
     FAULT_RESPONSE, FIND_BODY, FIND_REQUEST, FIND_RESPONSE, HELLO, OPEN_REQUEST, OPEN_RESPONSE,
     OTHER_BODY, OTHER_REQUEST, RENEW_REQUEST, RENEW_RESPONSE,
 };
-use std::alloc::{AllocError, Global};
-use ua_conn::ClientConfig;
-use ua_disco::DEFAULT;
 
 /// The Hello of the client: it takes answers of 1048576 bytes in 64 chunks.
 const GREETING: Piece = Changed(HELLO, &[(20, b"\0\0\x10\0\x40")]);

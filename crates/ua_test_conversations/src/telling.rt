@@ -2,13 +2,21 @@
 
 ghost use Rattle.ua_conn.specs.BothEnds.{IsConfig};
 
-use crate::lending::{judged, kept};
-use crate::rows::{Piece, made};
 use std::alloc::Global;
 use ua_conn::{Answer, AnswerResult, ClientConfig, Setup, Step, Story, converse};
 use ua_disco::Settings;
 use ua_service::read_request;
+use ua_test_shared::lending::{judged, kept};
+use ua_test_shared::pieces::{Piece, made};
 use ua_value::UaString;
+
+/// Frames of 65535 bytes, messages of 1048576 bytes, 64 chunks, and any lifetime.
+pub(crate) const CONFIG: ClientConfig = ClientConfig {
+    buffer: 65535,
+    max_message: 1_048_576,
+    max_chunks: 64,
+    lifetime: 0,
+};
 
 /// A step whose request is told by its body.
 #[derive(Clone, Copy)]
