@@ -81,6 +81,14 @@ def installed_command():
     return COMMAND + parts[1]
 
 
+def scripts_of(command):
+    """The scripts of tools/ that the command calls."""
+    found = sorted(set(re.findall(r"\$top/tools/([\w-]+)", command)))
+    if not found:
+        raise NotUnderstood("./uadisc calls no script of tools/")
+    return found
+
+
 def changelog(version, commit):
     date = email.utils.formatdate(commit.moment).replace("-0000", "+0000")
     made = textwrap.fill(f"Made from commit {commit.name}.", 78, initial_indent="  * ", subsequent_indent="    ")
@@ -110,8 +118,9 @@ def tree(commit, zsh_folder="vendor-completions"):
     files["share/fish/vendor_completions.d/uadisc.fish"] = completions.fish(top, commands).encode()
     files |= {f"share/doc/uadisc/{name}": text for name, text in documents(version, commit).items()}
     files["lib/uadisc/examples/uadisc.schema.json"] = (TOP / "examples" / "uadisc.schema.json").read_bytes()
-    run = {"bin/uadisc": installed_command().encode(), "lib/uadisc/uadisc": PROGRAM.read_bytes(),
-           "lib/uadisc/tools/say-fault": (TOP / "tools" / "say-fault").read_bytes()}
+    command = installed_command()
+    run = {"bin/uadisc": command.encode(), "lib/uadisc/uadisc": PROGRAM.read_bytes()}
+    run |= {f"lib/uadisc/tools/{name}": (TOP / "tools" / name).read_bytes() for name in scripts_of(command)}
     return version, top, commands, {**{path: (text, 0o644) for path, text in files.items()}, **{path: (text, 0o755) for path, text in run.items()}}
 
 
