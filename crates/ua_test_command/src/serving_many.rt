@@ -370,3 +370,42 @@ fn two_or_no_memory(rt: &HostRuntime) -> bool {
 fn serves_two_or_no_memory(rt: HostRuntime) {
     assert!(rt; two_or_no_memory(&rt));
 }
+
+/// The lines of two that say nothing, one after the other: with memory for both, or for one of them alone.
+const SILENT: [&str; 3] = [
+    "connection 1 input-ended read 0 written 0\nconnection 2 input-ended read 0 written 0\n",
+    "connection 1 memory read 0 written 0\nconnection 2 input-ended read 0 written 0\n",
+    "connection 1 input-ended read 0 written 0\nconnection 2 memory read 0 written 0\n",
+];
+
+/// Whether each has its whole line, or nothing begins. As nothing is said, a connection wants memory only as it begins.
+fn silent_or_no_memory(rt: &HostRuntime) -> bool {
+    let clients = [leaving(b""), leaving(b"")];
+    let mut printed = Page::new(4096);
+    let mut told = Page::new(4096);
+    let came = serve(
+        rt,
+        coming(&clients),
+        2,
+        1,
+        &mut printed,
+        &mut told,
+        &mut Why::Unknown,
+    );
+    let [both, second, first] = SILENT;
+    match came {
+        None => true,
+        Some(0) => printed.text() == both.as_bytes() && told.len == 0,
+        Some(4) if printed.len == 0 => told.text() == b"memory\n".as_slice(),
+        Some(4) => {
+            let one = printed.text() == second.as_bytes() || printed.text() == first.as_bytes();
+            one && told.len == 0
+        }
+        _ => false,
+    }
+}
+
+#[test]
+fn each_has_its_line_or_no_memory(rt: HostRuntime) {
+    assert!(rt; silent_or_no_memory(&rt));
+}
