@@ -4,7 +4,7 @@
 use std::alloc::{AllocError, Global};
 use ua_test_shared::memory::is_full_or_no_memory;
 use ua_test_shared::spelling::{Any, are_spelled, is_refused, is_whole, spells};
-use ua_value::{Array, Wire};
+use ua_value::{Array, ReadFault, Wire};
 use ua_variant::{DataValue, Variant};
 
 /// A value of each kind of number, and a text, behind its kind.
@@ -208,4 +208,53 @@ fn lists_of_data_values_are_spelled(rt: HostRuntime) {
     assert!(rt; are_spelled::<Variant>(alloc, &SPELLED));
     assert!(rt; spells::<Variant, Any>(alloc, SPELLED[0].0, 23, SPELLED[0].1, &Any));
     assert!(rt; is_refused::<Variant>(alloc, CUT));
+}
+
+/// Some bytes, and behind them none that begin a Variant, a DataValue or a DiagnosticInfo.
+fn ahead_of_none(front: &[u8]) -> [u8; 16384] {
+    let mut bytes = [0xfe; 16384];
+    for (byte, first) in bytes.iter_mut().zip(front) {
+        *byte = *first;
+    }
+    bytes
+}
+
+/// Whether so many bytes are refused that begin with these.
+fn is_refused_ahead_of_none<T: Wire>(alloc: Global, front: &[u8], len: usize) -> bool {
+    let all = ahead_of_none(front);
+    match all.get(..len) {
+        Some(bytes) => matches!(T::read(alloc, bytes), Err(ReadFault::Refused)),
+        None => false,
+    }
+}
+
+/// A list of one Variant, which is a list of 16000 Variants, DataValues or DiagnosticInfos, of which one is there.
+const LISTS_INSIDE: [&[u8]; 3] = [
+    &[0x98, 1, 0, 0, 0, 0x98, 0x80, 0x3e, 0, 0, 0],
+    &[0x98, 1, 0, 0, 0, 0x97, 0x80, 0x3e, 0, 0, 0],
+    &[0x98, 1, 0, 0, 0, 0x99, 0x80, 0x3e, 0, 0, 0],
+];
+
+/// A test whose name ends in `_within_N_kib` is also run with so much memory, and no more (tools/refuse-growths). The bytes behind a count are
+/// more than the items that it says, so it is refused only where they begin no item; what is asked for until then follows what was read.
+#[test]
+fn a_great_count_inside_a_list_is_refused_within_8_kib(rt: HostRuntime) {
+    let alloc = rt.alloc();
+    for front in &LISTS_INSIDE {
+        assert!(rt; is_refused_ahead_of_none::<Variant>(alloc, front, 16384));
+    }
+}
+
+/// Sixteen KiB could hold 2,047 DataValues of eight bytes, of which the first asks for room for 64.
+#[test]
+fn a_great_count_of_data_values_is_refused_within_16_kib(rt: HostRuntime) {
+    let front = [0x80, 0x3e, 0, 0, 0];
+    assert!(rt; is_refused_ahead_of_none::<Array<DataValue>>(rt.alloc(), &front, 16384));
+}
+
+/// So few bytes could hold 20 DataValues of eight bytes, whatever the count says.
+#[test]
+fn a_count_of_data_values_asks_for_what_the_bytes_hold_within_8_kib(rt: HostRuntime) {
+    let front = [150, 0, 0, 0, 0];
+    assert!(rt; is_refused_ahead_of_none::<Array<DataValue>>(rt.alloc(), &front, 170));
 }
