@@ -278,15 +278,33 @@ fn ticks(rt: &HostRuntime) -> Option<i128> {
     }
 }
 
-/// Whether two readings lie between two of the machine's time.
+/// How often the machine's time is read until it moves on: for far longer than any clock stands still.
+const READS: u32 = 1_000_000;
+
+/// The machine's time once it is behind this moment, where it comes to that.
+fn ticks_behind(rt: &HostRuntime, moment: i128) -> Option<i128> {
+    for _ in 0..READS {
+        match ticks(rt) {
+            Some(now) if now > moment => return Some(now),
+            Some(_) => {}
+            None => return None,
+        }
+    }
+    None
+}
+
+/// Whether two readings lie between three of the machine's time, the second one on behind a tick.
 fn reads_between(rt: &HostRuntime) -> bool {
     let mut clock = MachineClock::new(rt);
     let before = ticks(rt);
     let first = clock.now() as i128;
+    let between = ticks_behind(rt, first);
     let second = clock.now() as i128;
     let after = ticks(rt);
-    match (before, after) {
-        (Some(before), Some(after)) => before <= first && first <= second && second <= after,
+    match (before, between, after) {
+        (Some(before), Some(between), Some(after)) => {
+            before <= first && first < between && between <= second && second <= after
+        }
         _ => false,
     }
 }
