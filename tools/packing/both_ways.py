@@ -88,7 +88,7 @@ def alone(folder, usr):
     examples = usr / "share/doc/uadisc/examples"
     value = "value LocalizedText 0302000000656e050000005072657373 --show"
     return [
-        Case(["--version"], 0, r"uadisc [0-9.]+\n"),
+        Case(["--version"], 0, r"uadisc [0-9.]+ \(logic \w+\)\n"),
         Case(["answer", "default"], 0, re.escape((stored / "stdout").read_text()), given=(stored / "stdin").read_text()),
         Case(["answer", folder / "nine.toml"], 1, "", "settings 4 version\n", re.escape(no_version)),
         Case(["answer", "default"], 1, "", "line 1\n", "counted from 1, this line of standard input is neither hex of whole bytes, .*", given="48454C4\n"),
