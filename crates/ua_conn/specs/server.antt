@@ -17,4 +17,5 @@ pub mod Opening
 pub mod Parts
 pub mod Settled
 pub mod Feeding
+pub mod FeedingLaws
 pub mod Bound

@@ -1,13 +1,14 @@
 //! The server's end of a connection.
 
-ghost use Rattle.std.specs.Prelude.{◌≡◌, ◌<◌, ◌≤◌, ◌^◌, ◌↔◌, ◌++◌, [], true, false, None, Some, IfOk, OnErr, IsErrOf, is_ok, if◌then◌else◌};
+ghost use Rattle.std.specs.Prelude.{◌≡◌, ◌<◌, ◌≤◌, ◌^◌, ◌↔◌, ◌++◌, [], true, false, not, None, Some, IfOk, OnErr, IsErrOf, is_ok, if◌then◌else◌};
 ghost use Rattle.ua_frame.specs.Streams.{moment_of as counted};
 ghost use Rattle.ua_conn.specs.server.Site.{Site};
+ghost use Rattle.ua_conn.specs.server.Faults.{is_unopened};
 ghost use Rattle.ua_conn.specs.server.Greeting.{greeting, reverse_fault};
 ghost use Rattle.ua_conn.specs.server.Replies.{ended};
 ghost use Rattle.ua_conn.specs.server.Held.{held};
 ghost use Rattle.ua_conn.specs.server.Bound.{held_bytes, most_held};
-ghost use Rattle.ua_conn.specs.server.Feeding.{FeedsAll, FeedsPartAll};
+ghost use Rattle.ua_conn.specs.server.Feeding.{FeedsAll, FeedsPartAll, left_of};
 
 mod agreed;
 mod answers;
@@ -172,6 +173,9 @@ impl<'a> Server<'a> {
         ensures ended { IsErrOf result FeedFault.Ended ↔ (self.old.failed ≡ true) }
         ensures unchanged { self.old.failed ≡ true → (self.new ≡ self.old) × (out.new.items ≡ out.old.items) }
 
+        // Without an end, what is left of the input is what its whole frames leave, whatever came before.
+        ensures rest { IfOk result (λ fed. fed.end ≡ None → self.new.held.rest ≡ left_of (self.old.held.rest ++ piece.now)) }
+
         // What is held of the input fits the room that was reserved once.
         ensures bound { held_bytes self.new.held ≤ most_held self.new.site.settings.limits }
     {
@@ -197,6 +201,14 @@ impl<'a> Server<'a> {
         self.moment = now;
         self.failed = false;
         Ok(Fed { requests, end })
+    }
+
+    /// Whether its channel is open: an OpenSecureChannel request was granted, so that requests may come. OPC 10000-4,
+    /// 5.6.2.
+    pub fn is_open(&self) -> bool
+        ensures { result ≡ not (is_unopened self.now.held.known) }
+    {
+        self.connection.is_open()
     }
 
     /// How the connection ends where no more bytes come and no end came before.

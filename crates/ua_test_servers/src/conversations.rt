@@ -362,3 +362,26 @@ fn takes_no_more(alloc: Global, settings: &Settings) -> bool {
 fn server_takes_no_more_after_an_end(rt: HostRuntime) {
     assert!(rt; by_default(rt.alloc(), takes_no_more));
 }
+
+/// Whether the channel is open from the open request on.
+fn opens(alloc: Global, server: &mut Server) -> bool {
+    let mut out = Vec::new(alloc);
+    let quiet = Ok((0, None));
+    !server.is_open()
+        && is_fed(server, HELLO, &mut out, quiet)
+        && !server.is_open()
+        && is_fed(server, OPEN_REQUEST, &mut out, quiet)
+        && server.is_open()
+        && is_fed(server, OTHER_REQUEST, &mut out, Ok((1, None)))
+        && server.is_open()
+}
+
+fn a_server_opens(alloc: Global, settings: &Settings) -> bool {
+    let server = Server::new(alloc, settings, 1).ok();
+    passes(server, |server| opens(alloc, server))
+}
+
+#[test]
+fn a_channel_is_open_once_it_was_granted(rt: HostRuntime) {
+    assert!(rt; by_default(rt.alloc(), a_server_opens));
+}

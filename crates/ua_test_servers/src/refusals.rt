@@ -9,7 +9,7 @@ use ua_test_shared::pieces::Piece::{Bytes, Changed, EmptyParts, HelloTo};
 use ua_test_shared::pieces::{Piece, made};
 use ua_test_shared::vectors::{
     ABORT_TOO_LARGE, ACKNOWLEDGE, CLOSE_REQUEST, FIND_REQUEST, HELLO, OPEN_REQUEST, RENEW_REQUEST,
-    SIGNED_REQUEST,
+    REVERSE_HELLO, SIGNED_REQUEST,
 };
 
 /// What is refused: a name, how far the connection has come, what is said then, and the status.
@@ -18,7 +18,7 @@ type Refusal = (&'static str, Phase, &'static [Piece], u32);
 /// The FindServers request as a middle chunk.
 const MIDDLE: Piece = Changed(FIND_REQUEST, &[(3, b"C")]);
 
-const REFUSALS: [Refusal; 35] = [
+const REFUSALS: [Refusal; 38] = [
     ("unknown type", Begun, &[Bytes(b"GET / HT")], 0x807E_0000),
     (
         "wrong flag",
@@ -60,6 +60,24 @@ const REFUSALS: [Refusal; 35] = [
         "type out of turn: an Acknowledge first",
         Begun,
         &[Bytes(ACKNOWLEDGE)],
+        0x807E_0000,
+    ),
+    (
+        "type out of turn: a ReverseHello first",
+        Begun,
+        &[Bytes(REVERSE_HELLO)],
+        0x807E_0000,
+    ),
+    (
+        "type out of turn: a ReverseHello behind the Hello",
+        Acknowledged,
+        &[Bytes(REVERSE_HELLO)],
+        0x807E_0000,
+    ),
+    (
+        "type out of turn: a ReverseHello behind the opening",
+        Opened,
+        &[Bytes(REVERSE_HELLO)],
         0x807E_0000,
     ),
     (

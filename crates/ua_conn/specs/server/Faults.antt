@@ -25,11 +25,15 @@ abbrev pub greatest_frame : Option Agreed → ℕ
 greatest_frame None = least_buffer
 greatest_frame (Some agreed) = agreed.ack.receive
 
+-- no OpenSecureChannel request was granted yet. OPC 10000-4, 5.6.2.
+abbrev pub is_unopened : Known → Bool
+is_unopened k = length k.tokens == 0
+
 -- First a Hello, then an OPN, then MSG, OPN and CLO.
 abbrev pub is_allowed : Known → Option Kind → Bool
 is_allowed k kind =
     if is_none k.limits then is_hello kind
-    else (if length k.tokens == 0 then is_open kind
+    else (if is_unopened k then is_open kind
     else has_number kind)
 
 -- ---- an OPN

@@ -33,6 +33,10 @@ pub data IsRefused (site : Site) (k : Known) (now : ℕ) (bytes : List ℕ) (sta
   by_header : fault_in_rest k bytes ≡ Some status → IsRefused site k now bytes status
   by_frame : (n : ℕ) → BeginsFrame n bytes → fault_at site k (first_frame now n bytes) ≡ Some status → IsRefused site k now bytes status
 
+-- What is left of some bytes behind their whole frames. It is the same whenever they came: a moment says nothing of where a frame lies.
+abbrev pub left_of : List ℕ → List ℕ
+left_of bytes = plain (rest_of (map (at 0) bytes))
+
 -- what the front of the bytes did, come at one moment
 abbrev pub Steps : Running → Running → ℕ → List ℕ → Gained → Gained → Step → Type 0
 Steps old new now bytes had has steps.Waits = BeginsNoFrame bytes × (fault_in_rest old.known bytes ≡ None) × (new ≡ old) × (has ≡ had)

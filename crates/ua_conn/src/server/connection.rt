@@ -1,11 +1,11 @@
 //! One connection of a server, a whole frame at a time.
 
-ghost use Rattle.std.specs.Prelude.{◌≡◌, ◌≤◌, ◌<◌, ◌^◌, ℕ, [], None, List, length, IfOk, OnErr, Some};
+ghost use Rattle.std.specs.Prelude.{◌≡◌, ◌≤◌, ◌<◌, ◌^◌, ℕ, [], None, List, length, not, IfOk, OnErr, Some};
 ghost use Rattle.ua_frame.specs.Layout.{IsFrameOf};
 ghost use Rattle.ua_frame.specs.HeaderRows.{header_fault};
 ghost use Rattle.ua_chunk.specs.Half.{body_of};
 ghost use Rattle.ua_conn.specs.server.Held.{held};
-ghost use Rattle.ua_conn.specs.server.Faults.{greatest_frame, is_allowed};
+ghost use Rattle.ua_conn.specs.server.Faults.{greatest_frame, is_allowed, is_unopened};
 ghost use Rattle.ua_conn.specs.server.Settled.{settled};
 ghost use Rattle.ua_conn.specs.server.Taking.{Takes};
 
@@ -104,13 +104,20 @@ impl<'a> Connection<'a> {
         let _ = &self.half;
     }
 
+    /// Whether a token was issued, so that messages may come. OPC 10000-4, 5.6.2.
+    pub(crate) fn is_open(&self) -> bool
+        ensures { result ≡ not (is_unopened self.now.known) }
+    {
+        self.channel.is_open()
+    }
+
     /// Whether a frame of this type may come next: first a Hello, then an OPN, then MSG, OPN and CLO.
     fn allows(&self, kind: Kind) -> bool
         ensures { result ≡ is_allowed self.now.known (Some kind) }
     {
         if self.agreed.is_none() {
             matches!(kind, Kind::Hello)
-        } else if self.channel.is_open() {
+        } else if self.is_open() {
             matches!(kind, Kind::Open | Kind::Message | Kind::Close)
         } else {
             matches!(kind, Kind::Open)

@@ -5,6 +5,7 @@ use Rattle.ua_service.specs.declared.request.Request.{Request}
 use Rattle.ua_conn.specs.server.Held.{Held}
 use Rattle.ua_conn.specs.server.Taking.{Running}
 use Rattle.ua_conn.specs.server.Feeding.{Hears, HearsPart}
+use Rattle.ua_conn.specs.server.FeedingLaws.{left_at}
 use Rattle.ua_conn.proofs.ServerEnd.PieceLemmas.{feeds, feeds_part}
 use Rattle.ua_conn.proofs.server.Server.feed.Goals as goal
 
@@ -55,3 +56,10 @@ returns-clause-fed c =
     rw (← c.self.view_is) (feeds r.site h x r.moment new.connection c.args.out.now.items new.out.items new.asked.items new.buffer.bytes c.in_ok-end.end _ heard
     (λ _ i. record { site = new.connection.site; held = record { known = new.connection.known; next = new.connection.next; moment = now i; rest = new.buffer.bytes }; failed = false })
     (λ e y. not_both c.in_ok-end.end e none y))
+
+pub returns-then-is_some-clause-rest : goal.returns-then-is_some-clause-rest
+returns-then-is_some-clause-rest c = λ none. is_some_by c.in_ok-end.end (sym c.is_some.ensures ∙ c.if-is_some.true) none
+
+pub returns-clause-rest : goal.returns-clause-rest
+returns-clause-rest c =
+    rw (← c.self.view_is) (λ none. c.in_ok-end.ensures.heard.rest none ∙ left_at c.later-now.result (c.self.inside.buffer.bytes ++ c.args.piece.now))
