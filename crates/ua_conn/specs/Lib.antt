@@ -1,5 +1,6 @@
 pub mod server
 pub mod Past
+pub mod FirstFrame
 pub mod client
 pub mod Story
 pub mod BothEnds

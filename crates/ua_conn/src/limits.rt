@@ -3,10 +3,9 @@
 ghost use Rattle.std.specs.Prelude.{◌≡◌};
 ghost use Rattle.ua_conn.specs.server.Replies.{is_over as passes};
 
-use ua_frame::LEAST_BUFFER;
-
-/// The greatest frame that an end takes before an Acknowledge. OPC 10000-6, 7.1.2.3.
-pub(crate) const GREATEST_FIRST_FRAME: u32 = LEAST_BUFFER;
+/// Bytes of the longest frame that an end takes, or says, before an Acknowledge. OPC 10000-6, 7.1.2.3, 7.1.2.4 and
+/// 7.1.2.6.
+pub(crate) const GREATEST_FIRST_FRAME: u32 = 8192;
 
 /// Whether a limit of a Hello or an Acknowledge, of which 0 is none, is passed. OPC 10000-6, 7.1.2.3 and 7.1.2.4.
 pub(crate) fn is_over(limit: u32, n: u64) -> bool

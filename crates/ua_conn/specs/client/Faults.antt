@@ -4,7 +4,6 @@ use Rattle.ua_frame.specs.Layout.{Frame, kind_of, flag_of, fields_of}
 use Rattle.ua_frame.specs.Rows.{Row, first_row, or_else}
 use Rattle.ua_frame.specs.HeaderRows.{header_fault}
 use Rattle.ua_frame.specs.Hello.{is_acceptable, is_long}
-use Rattle.ua_frame.specs.Sizes.{least_buffer}
 use Rattle.ua_frame.specs.declared.kind.Kind.{Kind}
 use Rattle.ua_frame.specs.declared.kind.Kind.TheVariants as kinds
 use Rattle.ua_frame.specs.declared.acknowledge.Ack.{Ack}
@@ -22,6 +21,7 @@ use Rattle.ua_service.specs.declared.response.Response.{Response}
 use Rattle.ua_service.specs.declared.response.Response.TheVariants as responses
 use Rattle.ua_service.specs.ChannelMessages.{open_response_of}
 use Rattle.ua_service.specs.Responses.{response_of}
+use Rattle.ua_conn.specs.FirstFrame.{greatest_first_frame}
 use Rattle.ua_conn.specs.Past.{is_open, is_message, carried, open_in}
 use Rattle.ua_conn.specs.client.Past.{ClientKnown, client_channel, is_acknowledge, acknowledge_in, error_in, is_reverse, reverse_in}
 use Rattle.ua_conn.specs.client.Asker.{Asker, hello_by}
@@ -38,9 +38,9 @@ broken rows = map (λ row. (row.0, Broken row.1)) rows
 
 -- ---- the header and the type
 
--- the greatest frame: as large as the least buffer before the Acknowledge, what it says afterwards
+-- the greatest frame: that of the first ones before the Acknowledge, what it says afterwards
 abbrev pub greatest_answer : Option Ack → ℕ
-greatest_answer None = least_buffer
+greatest_answer None = greatest_first_frame
 greatest_answer (Some ack) = ack.send
 
 -- A ReverseHello while one is awaited; then an Acknowledge, then an OPN, then MSG, and OPN while a renewal is pending.

@@ -4,7 +4,6 @@ use Rattle.ua_frame.specs.Layout.{Frame, kind_of, flag_of, fields_of}
 use Rattle.ua_frame.specs.Rows.{Row, first_row, or_else}
 use Rattle.ua_frame.specs.HeaderRows.{header_fault}
 use Rattle.ua_frame.specs.Hello.{hello_rows}
-use Rattle.ua_frame.specs.Sizes.{least_buffer}
 use Rattle.ua_frame.specs.declared.kind.Kind.{Kind}
 use Rattle.ua_frame.specs.declared.kind.Kind.TheVariants as kinds
 use Rattle.ua_chunk.specs.Layout.{OpenChunk, Chunk, chunk_of}
@@ -14,15 +13,16 @@ use Rattle.ua_channel.specs.Channel.{Channel}
 use Rattle.ua_channel.specs.Admission.{admit_open_rows, issue_rows, admit_rows_by}
 use Rattle.ua_service.specs.declared.channel.OpenRequest.{OpenRequest}
 use Rattle.ua_conn.specs.server.Site.{Site}
+use Rattle.ua_conn.specs.FirstFrame.{greatest_first_frame}
 use Rattle.ua_conn.specs.Past.{Known, Agreed, is_hello, is_open, has_number, hello_in, open_in, carried}
 use Rattle.ua_service.specs.ChannelMessages.{open_of, close_of}
 use Rattle.ua_service.specs.Requests.{request_of}
 
 -- ---- the header and the type
 
--- the greatest frame: as large as the least buffer before the Acknowledge, what it says afterwards
+-- the greatest frame: that of the first ones before the Acknowledge, what it says afterwards
 abbrev pub greatest_frame : Option Agreed → ℕ
-greatest_frame None = least_buffer
+greatest_frame None = greatest_first_frame
 greatest_frame (Some agreed) = agreed.ack.receive
 
 -- no OpenSecureChannel request was granted yet. OPC 10000-4, 5.6.2.

@@ -1,10 +1,10 @@
 -- How a server begins that opened the connection itself: one ReverseHello. OPC 10000-6, 7.1.2.6.
 use Rattle.std.specs.Prelude.{Bool, true, false, nat_lt, List, ℕ, [], length, Option, Some, None, if◌then◌else◌}
 use Rattle.ua_frame.specs.Hello.{reverse_hello_frame}
-use Rattle.ua_frame.specs.Sizes.{least_buffer}
 use Rattle.ua_frame.specs.declared.reverse_hello.ReverseHello.{ReverseHello}
 use Rattle.ua_disco.specs.Configuration.{Configuration}
 use Rattle.ua_disco.specs.Settings.{first_uri_of, first_url_of}
+use Rattle.ua_conn.specs.FirstFrame.{greatest_first_frame}
 use Rattle.ua_conn.specs.declared.server.greeting.ReverseFault.{ReverseFault}
 use Rattle.ua_conn.specs.declared.server.greeting.ReverseFault.TheVariants.{NoEndpoint, TooLarge}
 
@@ -14,7 +14,7 @@ reverse_hello_by settings url = record { server_uri = first_uri_of settings.appl
 
 abbrev pub reverse_fault_at : Configuration → Option (Option (List ℕ)) → Option ReverseFault
 reverse_fault_at settings None = Some NoEndpoint
-reverse_fault_at settings (Some url) = if nat_lt least_buffer (length (reverse_hello_frame (reverse_hello_by settings url))) then Some TooLarge else None
+reverse_fault_at settings (Some url) = if nat_lt greatest_first_frame (length (reverse_hello_frame (reverse_hello_by settings url))) then Some TooLarge else None
 
 -- Why a server with these settings can't begin so: it has no endpoint, or the frame is longer than any end takes before an Acknowledge.
 abbrev pub reverse_fault : Configuration → Option ReverseFault
