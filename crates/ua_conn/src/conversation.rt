@@ -37,7 +37,7 @@ use ua_value::plumbing::let_go;
 pub fn converse(alloc: Global, setup: &Setup, schedule: &[Step]) -> Result<Story, NoMemory>
     requires channel { 0 < setup.now.channel_id }
     requires config { IsConfig setup.now.config }
-    requires url { is_long setup.now.url.now ≡ false }
+    requires url { setup.now.reverse ≡ false → is_long setup.now.url.now ≡ false }
     requires reverse { setup.now.reverse ≡ true → reverse_fault setup.now.settings.now ≡ None }
     requires first_least { 1 ≤ setup.now.first_sequence }
     requires first_most { setup.now.first_sequence ≤ greatest_number }

@@ -6,29 +6,33 @@ use ua_conn::{ReverseFault, Setup, Step, Story, can_open, converse};
 use ua_disco::{DEFAULT, Settings};
 use ua_test_lent::{by_default, by_settings};
 use ua_test_shared::bytes::joined;
-use ua_test_shared::lending::judged;
+use ua_test_shared::lending::{judged, passes};
 use ua_test_shared::vectors::{
     ACKNOWLEDGE, FIND_BODY, FIND_REQUEST, FIND_RESPONSE, HELLO_TO_URL, OPEN_REQUEST, OPEN_RESPONSE,
     REVERSE_HELLO,
 };
-use ua_value::UaString;
+use ua_value::{UaString, ValueFault};
 
-/// What is told of these steps, where the server opens the connection; none where it can't, or memory ran out.
-fn story_of(alloc: Global, settings: &Settings, steps: &[Step]) -> Option<Story> {
+/// What is told of these steps, where the server opens the connection, and the client was given this url, of which
+/// nothing comes; none where the server can't, or memory ran out.
+fn story_with(alloc: Global, settings: &Settings, url: &UaString, steps: &[Step]) -> Option<Story> {
     let Ok(()) = can_open(settings) else {
         return None;
     };
-    let url = UaString::null();
     let setup = Setup {
         settings,
         channel_id: 1,
         config: CONFIG,
-        url: &url,
+        url,
         first_sequence: 1,
         reverse: true,
         start: 0,
     };
     converse(alloc, &setup, steps).ok()
+}
+
+fn story_of(alloc: Global, settings: &Settings, steps: &[Step]) -> Option<Story> {
+    story_with(alloc, settings, &UaString::null(), steps)
 }
 
 /// Whether just that is told of these steps.
@@ -128,6 +132,44 @@ fn a_request_is_answered(alloc: Global, settings: &Settings) -> bool {
 #[test]
 fn a_server_and_the_client_that_it_calls_converse(rt: HostRuntime) {
     assert!(rt; by_default(rt.alloc(), a_request_is_answered));
+}
+
+/// A url longer than a Hello may name.
+fn long_url(alloc: Global) -> Result<UaString, ValueFault> {
+    let mut url = String::new(alloc);
+    for _ in 0..4096 {
+        url.push_str("u")?;
+    }
+    UaString::from_string(url)
+}
+
+fn tells_of_any_url(alloc: Global, settings: &Settings, steps: &[Step], told: Told) -> bool {
+    passes(long_url(alloc).ok(), |url| {
+        passes(
+            story_with(alloc, settings, url, steps),
+            |story| is_told(story, told),
+        )
+    })
+}
+
+fn any_url_is_given(alloc: Global, settings: &Settings) -> bool {
+    let (Ok(up), Ok(down)) = (joined(alloc, &SENT), joined(alloc, &REPLIED)) else {
+        return false;
+    };
+    let told = Told {
+        up: up.as_slice(),
+        down: down.as_slice(),
+        answers: &[(2, None)],
+    };
+    passes(
+        steps_of(alloc, &BY_FRAMES),
+        |steps| tells_of_any_url(alloc, settings, steps.as_slice(), told),
+    )
+}
+
+#[test]
+fn a_client_that_is_called_is_given_any_url(rt: HostRuntime) {
+    assert!(rt; by_default(rt.alloc(), any_url_is_given));
 }
 
 /// Whether all is told, or `None` where memory ran out.

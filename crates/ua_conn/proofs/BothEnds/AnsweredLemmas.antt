@@ -27,7 +27,7 @@ use Rattle.ua_conn.proofs.BothEnds.UnrefusedLemmas.{lives, calm_replies}
 use Rattle.ua_conn.proofs.BothEnds.PlainForms.{IsPlain, plain_stream, AnswersAll}
 
 sizes_of : (s : Setup) → IsPlain s → (w : World) → Base s w → HaveSizes (sends s w)
-sizes_of s h w i = sent_sized s.asker w.cmds (here_of s w) h.plain h.asker.url i.cut
+sizes_of s h w i = sent_sized s.asker w.cmds (here_of s w) h.plain (h.asker.url h.plain) i.cut
 
 -- all frames came to the server,
 up_whole : (s : Setup) → IsPlain s → (w : World) → Base s w → Delivered s w → Are (frames_of w.up) (frames_sent s.asker.first_sequence 0 (sends s w))

@@ -81,7 +81,7 @@ opened_core s h o now u clock ps rs c =
     let bytes_g : g.bytes ≡ spell (Opens 0 number 1 (open_body now 1 0 lifetime)) = one.4 ∙ sent_spelled number (Opening 0 1 (open_asked_body now 1 0 lifetime)) ∙ ap (λ b. spell (Opens 0 number 1 b)) (open_asked_is now 1 0 lifetime) in
     let reply_x : Reply = Acknowledge (negotiated site.settings.limits hello) in
     let reply_y : Reply = Opened 1 (opened_body 1 g.moment site.channel (next_token [] g.moment lifetime)) in
-    let taken = opening_taken site config.buffer config.max_message config.max_chunks lifetime first now s.asker.url f g h.site.settings.bounds.limits (client_of s.asker h.asker) clock bytes_f bytes_g in
+    let taken = opening_taken site config.buffer config.max_message config.max_chunks lifetime first now s.asker.url f g h.site.settings.bounds.limits (client_of s.asker h.asker h.plain) clock bytes_f bytes_g in
     let says : replies site (past_of ps) ≡ reply_x ∷ reply_y ∷ [] = ap (λ l. replies site (past_of l)) one.2 ∙ replies_go site [] (f ∷ g ∷ []) ∙ taken.says in
     let two = pair_of rs (spelled site (number_after 1 0) reply_x) (spelled site (number_after 1 0) reply_y) (c.replied ∙ ap (frames_replied site 0) says) in
     let x = two.0 in
@@ -157,7 +157,7 @@ untokened_live past [] h = tt
 untokened_live past (f ∷ fs) h = ((λ t. absurd (let clash : true ≡ false = sym t ∙ h.0 in cc clash)), untokened_live (f ∷ past) fs h.1)
 
 hello_untokened : (s : Setup) → IsPlain s → (n : ℕ) (f : Frame) → f.bytes ≡ sent_bytes n (Greeting (hello_by s.asker)) → has_token (kind_of f.bytes) ≡ false
-hello_untokened s h n f e = ap has_token (ap kind_of (e ∙ sent_spelled n (Greeting (hello_by s.asker))) ∙ (spell_is (Greets (hello_by s.asker)) h.asker.url).kind)
+hello_untokened s h n f e = ap has_token (ap kind_of (e ∙ sent_spelled n (Greeting (hello_by s.asker))) ∙ (spell_is (Greets (hello_by s.asker)) (h.asker.url h.plain)).kind)
 
 open_untokened : (s : Setup) (n now : ℕ) (f : Frame) → f.bytes ≡ sent_bytes n (Opening 0 1 (open_asked_body now 1 0 s.asker.config.lifetime)) → has_token (kind_of f.bytes) ≡ false
 open_untokened s n now f e =

@@ -104,7 +104,7 @@ turned s k start = record { site = s.site; asker = plainly s.asker k.hello.endpo
 pub turned_plain : (s : Setup) → IsSetup s → (k : Calls s) (start : ℤ) → moment_of start < 2 ^ 63 → IsPlain (turned s k start)
 turned_plain s h k start lt = record {
   site = h.site;
-  asker = record { config = h.asker.config; url = k.short; text = k.text; first_least = h.asker.first_least; first_most = h.asker.first_most };
+  asker = record { config = h.asker.config; url = λ _. k.short; text = k.text; first_least = h.asker.first_least; first_most = h.asker.first_most };
   start = lt;
   plain = refl;
 }

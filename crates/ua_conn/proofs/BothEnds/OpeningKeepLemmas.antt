@@ -37,8 +37,8 @@ use Rattle.ua_conn.proofs.BothEnds.HoldLemmas.{ids_of, Keeps}
 use Rattle.ua_conn.proofs.BothEnds.PlainForms.{IsPlain}
 
 -- a client that is asked for is one that the server's walk takes
-pub client_of : (a : Asker) → IsAsker a → IsClient a.config.buffer a.config.max_message a.config.max_chunks a.config.lifetime a.first_sequence a.url
-client_of a h = record {
+pub client_of : (a : Asker) → IsAsker a → a.reverse ≡ false → IsClient a.config.buffer a.config.max_message a.config.max_chunks a.config.lifetime a.first_sequence a.url
+client_of a h plain = record {
   least = h.config.buffer_least;
   most = h.config.buffer_most;
   message_least = h.config.message_least;
@@ -47,7 +47,7 @@ client_of a h = record {
   chunks_most = omega (arith, h.config.chunks_most);
   lifetime_fits = h.config.lifetime;
   first_some = h.first_least;
-  url_short = h.url;
+  url_short = h.url plain;
   url_text = h.text;
 }
 
@@ -65,7 +65,7 @@ opening_keeps s o now f g x y h clock moment e d p q =
     let lifetime = config.lifetime in
     let first = s.asker.first_sequence in
     let bounds = h.site.settings.bounds.limits in
-    let client = client_of s.asker h.asker in
+    let client = client_of s.asker h.asker h.plain in
     let value = hello_value config.buffer config.max_message config.max_chunks lifetime first s.asker.url client in
     let token = next_token [] g.moment lifetime in
     let number = number_after first 0 in
@@ -73,9 +73,9 @@ opening_keeps s o now f g x y h clock moment e d p q =
     let request = open_request_at now 1 0 lifetime in
     let short = open_request_length now 1 0 lifetime in
     let reads = open_request_read now 1 0 lifetime clock (lit< tt) (lit< tt) h.asker.config.lifetime in
-    let read_f = is_read f (Greets hello) e h.asker.url value in
+    let read_f = is_read f (Greets hello) e (h.asker.url h.plain) value in
     let read_g = is_read g (Opens 0 number 1 body) d (omega (arith, short)) (lit< tt, number_fits first 0, lit< tt) in
-    let greeted = hello_taken s.site hello f e value h.asker.url h.asker.config.buffer_least h.asker.config.buffer_least in
+    let greeted = hello_taken s.site hello f e value (h.asker.url h.plain) h.asker.config.buffer_least h.asker.config.buffer_least in
     let opens = open_taken s.site a [] None None 0 number 1 body request g d refl (omega (arith, short)) (omega (arith, bounds.receive_least, h.asker.config.buffer_least))
     (lit< tt) (number_fits first 0) (lit< tt) refl (lit< tt) reads refl refl in
     let one = taken_took s.site [] f nothing (at a [] None None None) (Acknowledge a.ack ∷ []) [] [] (nothing_known s.site) greeted (hello_any s.site nothing f _ read_f.kind greeted.goes.0) (same_tokens f [] (ap is_open read_f.kind)) in

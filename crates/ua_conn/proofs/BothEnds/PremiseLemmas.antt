@@ -76,7 +76,7 @@ is_setup : IsSetup plain_setup
 unfolding cuts_within rest_within size_of kind_of hello_layout acknowledge_layout error_layout open_header chunk_header abort_body open_chunk_of chunk_of abort_of fill open_frame chunk_frame unsigned bytes_of is_utf8 chars encode known fault_at fault_in_rest reply_to handed_at spelled answer_body opened_body message request_of response_of request_header response_header open_request open_response close_request service_fault find_servers_request get_endpoints_request find_servers_response get_endpoints_response application_description endpoint_description user_token_policy localized_text answer_of servers_found endpoints_found node_id date_time status_code extension_object extension_body signed array items_at diagnostic within diagnostic_parts client_known client_fault_by client_fault_in_rest answer_at open_asked_body close_asked_body sent_bytes expected
 is_setup = record {
   site = record { settings = settings_are; channel = omega arith; channel_most = omega arith };
-  asker = record { config = is_config; url = refl; text = text (codes "opc.tcp://localhost:4840") (omega arith) refl; first_least = omega arith; first_most = omega arith };
+  asker = record { config = is_config; url = λ _. refl; text = text (codes "opc.tcp://localhost:4840") (omega arith) refl; first_least = omega arith; first_most = omega arith };
   start = omega arith;
   opens = λ e. absurd (cc e);
 }

@@ -134,7 +134,7 @@ abbrev pub sends : Setup → World → List Sent
 sends s w = sent_by s.asker w.cmds (here_of s w)
 
 pub up_are : (s : Setup) → IsPlain s → (w : World) → Base s w → BeginsSpoken w.up (all_spoken s.asker.first_sequence 0 (sends s w))
-up_are s h w i = up_begins s w i.flow.up h.plain h.asker.url i.cut
+up_are s h w i = up_begins s w i.flow.up h.plain (h.asker.url h.plain) i.cut
 
 pub standing_of : (s : Setup) → IsPlain s → (w : World) → Base s w → Standing s w.cmds w.up w.down
 standing_of s h w i = standing s w.cmds w.up w.down h (plain_down s h w (plain w.down) i.flow.down)

@@ -168,7 +168,7 @@ fn hear(
 /// A client that has heard nothing yet.
 fn client_of(alloc: Global, setup: &Setup) -> Result<Client, NoMemory>
     requires config { IsConfig setup.now.config }
-    requires url { is_long setup.now.url.now ≡ false }
+    requires url { setup.now.reverse ≡ false → is_long setup.now.url.now ≡ false }
     requires first_least { 1 ≤ setup.now.first_sequence }
     requires first_most { setup.now.first_sequence ≤ greatest_number }
     ensures { IfOk result (λ client. let a : Asker = (setup_of setup.now).asker in
@@ -184,7 +184,7 @@ fn client_of(alloc: Global, setup: &Setup) -> Result<Client, NoMemory>
 /// A client that has heard nothing yet, and what it said.
 fn greeting(alloc: Global, setup: &Setup) -> Result<(Client, Vec<u8>), NoMemory>
     requires config { IsConfig setup.now.config }
-    requires url { is_long setup.now.url.now ≡ false }
+    requires url { setup.now.reverse ≡ false → is_long setup.now.url.now ≡ false }
     requires first_least { 1 ≤ setup.now.first_sequence }
     requires first_most { setup.now.first_sequence ≤ greatest_number }
     ensures client { IfOk result (λ made. let a : Asker = (setup_of setup.now).asker in
@@ -227,7 +227,7 @@ impl<'a> Ends<'a> {
     pub(crate) fn begin(alloc: Global, setup: &Setup<'a>) -> Result<Ends<'a>, NoMemory>
         requires channel { 0 < setup.now.channel_id }
         requires config { IsConfig setup.now.config }
-        requires url { is_long setup.now.url.now ≡ false }
+        requires url { setup.now.reverse ≡ false → is_long setup.now.url.now ≡ false }
         requires first_least { 1 ≤ setup.now.first_sequence }
         requires first_most { setup.now.first_sequence ≤ greatest_number }
         ensures { IfOk result (λ ends. Between (setup_of setup.now) (begun (setup_of setup.now)) (run_of ends)) }

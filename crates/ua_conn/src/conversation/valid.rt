@@ -17,7 +17,7 @@ use ua_value::Wire;
 pub(crate) fn setup_is_in_range(setup: &Setup)
     requires channel { 0 < setup.now.channel_id }
     requires config { IsConfig setup.now.config }
-    requires url { is_long setup.now.url.now ≡ false }
+    requires url { setup.now.reverse ≡ false → is_long setup.now.url.now ≡ false }
     requires reverse { setup.now.reverse ≡ true → reverse_fault setup.now.settings.now ≡ None }
     requires first_least { 1 ≤ setup.now.first_sequence }
     requires first_most { setup.now.first_sequence ≤ greatest_number }
