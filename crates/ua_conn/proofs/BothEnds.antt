@@ -43,6 +43,7 @@ pub mod ClosingLemmas
 pub mod AnsweredLemmas
 pub mod MirrorLemmas
 pub mod ReverseLemmas
+pub mod OpenedLemmas
 pub mod BetweenCommandLemmas
 pub mod BetweenTickLemmas
 pub mod BetweenServerLemmas

@@ -6,3 +6,4 @@ pub mod Story
 pub mod BothEnds
 pub mod Conversing
 pub mod Between
+pub mod Reverse

@@ -1,15 +1,8 @@
 //! Laws of the definitions of a connection: what they say is true of every stream of bytes.
 
-ghost use Rattle.std.specs.Prelude.{◌≡◌, ◌∷◌, ◌++◌, false, List};
-ghost use Rattle.ua_frame.specs.Streams.{TimedByte};
 ghost use Rattle.ua_conn.specs.server.FirstFault.{StopsFirst};
 ghost use Rattle.ua_conn.specs.server.Held.{ByRecord};
-ghost use Rattle.ua_conn.specs.server.Replies.{answering_bytes, reply_bytes};
-ghost use Rattle.ua_conn.specs.Past.{Past};
-ghost use Rattle.ua_conn.specs.client.Asker.{Asker, hello_by};
-ghost use Rattle.ua_conn.specs.client.Commands.{Commands};
-ghost use Rattle.ua_conn.specs.client.Reading.{client_reading_of};
-ghost use Rattle.ua_conn.specs.client.Sending.{Greeting, opens, commands_say, client_sent};
+ghost use Rattle.ua_conn.specs.Reverse.{OpenedAsByClient, RefusedByClients, RefusedByServers, SaysHelloFirst};
 ghost use Rattle.ua_conn.specs.client.FirstFault.{ClientStopsFirst, ClientStaysStopped};
 ghost use Rattle.ua_conn.specs.client.Held.{ClientByRecord, RefusedByRecord};
 ghost use Rattle.ua_conn.specs.client.Unanswered.{PendingIsUnanswered};
@@ -39,12 +32,24 @@ pub fn same_for_any_cut()
     ensures { SameForAnyCut }
 {}
 
-/// A server that did not open the connection itself says nothing first: its reply is what answers the stream. A client
-/// that opened it sends its Hello before all, whatever came.
-pub fn without_reverse()
-    ensures server { (site : Site) (s : List TimedByte) → reply_bytes false site s ≡ answering_bytes site s }
-    ensures client { (a : Asker) (cmds : Commands) (v : List TimedByte) → a.reverse ≡ false →
-        (let past : Past = (client_reading_of a cmds v).past in client_sent a cmds v ≡ Greeting (hello_by a) ∷ opens a past ++ commands_say a cmds past) }
+/// Nobody takes a ReverseHello that awaits none. Every server refuses it in every phase, and so does a client that opened
+/// the connection itself or had one already: with 0x807E0000, wherever no row of the header refuses the frame first.
+/// OPC 10000-6, 7.1.2.6.
+pub fn reverse_hello_refused()
+    ensures servers { RefusedByServers }
+    ensures clients { RefusedByClients }
+{}
+
+/// A client that opens the connection says its Hello before all, whatever comes and is asked. OPC 10000-6, 7.1.3.
+pub fn hello_first()
+    ensures { SaysHelloFirst }
+{}
+
+/// A conversation that the server opens is the one that the client opens, behind the ReverseHello. Until that came whole
+/// it was said, and nothing else happened; from then on each step of the schedule does what it does where the client
+/// opens the connection at that moment and names the url of the ReverseHello. OPC 10000-6, 7.1.2.6.
+pub fn opened_by_server()
+    ensures { OpenedAsByClient }
 {}
 
 /// A server that takes frames of 8192 bytes refuses nothing in a list of frames, with nothing behind a CLO, exactly

@@ -49,6 +49,7 @@ use Rattle.ua_conn.proofs.BothEnds.StoryBaseLemmas.{ticked_timely}
 
 pub record Calls (s : Setup) : Type 0 where
   pub hello : ReverseHello
+  pub named : first_url_of s.site.settings.endpoints ≡ Some hello.endpoint_url
   pub says : greeting true s.site.settings ≡ reverse_hello_frame hello
   pub frame : IsFrameOf (reverse_hello_frame hello) (record { kind = kinds.ReverseHello; flag = 70; fields = reverse_hello_layout.canon hello })
   pub read : reverse_hello_of (fields_of (reverse_hello_frame hello)) ≡ Some hello
@@ -86,6 +87,7 @@ calls_of s h own = by (first_url_of settings.endpoints) refl
         let frame = reverse_hello_frame_is hello (omega (arith, fits)) in
         record {
           hello = hello;
+          named = e;
           says = ap (greeting_at settings) e;
           frame = frame;
           read = reverse_hello_frame_read hello (omega (arith, fits)) ((first_of_all IsApplicationValue settings.applications values.bounds.some values.applications).uri, first.1);
@@ -250,7 +252,7 @@ waits_told s k clock down act w =
     let rows : ClientReading → Option AskFault = λ r. first_row ((is_some r.fault, Ended) ∷ (not (standing [] r.past).channel_open, NotOpen) ∷ act_rows (standing [] r.past) act) in
     ap (λ r. told_by (still clock down) act (rows r)) (waits_reading s k down w)
 
-waits_sends : (s : Setup) (k : Calls s) (down : List TimedByte) → s.asker.reverse ≡ true → Waits s k down → client_bytes s.asker [] down ≡ []
+pub waits_sends : (s : Setup) (k : Calls s) (down : List TimedByte) → s.asker.reverse ≡ true → Waits s k down → client_bytes s.asker [] down ≡ []
 waits_sends s k down own w =
     let first = s.asker.first_sequence in
     ap (λ (R : ClientReading). sent_all first 0 (sent_by s.asker [] R.past)) (waits_reading s k down w)
@@ -274,22 +276,29 @@ first_stream s k own = ap (λ b. greeting b s.site.settings ++ answering_bytes s
 
 -- ---- where a story stands
 
-pub data Mirrors (s : Setup) (k : Calls s) (w : World) : Type 0 where
-  waits : (clock : ℤ) (down : List TimedByte) → moment_of clock < 2 ^ 63 → Waits s k down → w ≡ still clock down → Mirrors s k w
-  goes : (start : ℤ) (call : List TimedByte) (es : List Step) → moment_of start < 2 ^ 63 → Came s k call → IsSchedule es → w ≡ image call (final (turned s k start) es) → Mirrors s k w
+-- what a schedule makes of this world: a part of the ReverseHello came, or its first steps brought all of it
+pub data Mirrors (s : Setup) (k : Calls s) (from : World) (schedule : List Step) : Type 0 where
+  waits : (clock : ℤ) (down : List TimedByte) → moment_of clock < 2 ^ 63 → Waits s k down → run s from schedule ≡ still clock down → Mirrors s k from schedule
+  goes : (start : ℤ) (call : List TimedByte) (before es : List Step) → moment_of start < 2 ^ 63 → Came s k call → IsSchedule es → schedule ≡ before ++ es →
+      run s from before ≡ image call (begun (turned s k start)) → run s from schedule ≡ image call (final (turned s k start) es) → Mirrors s k from schedule
 
-pub mirrors : (s : Setup) (k : Calls s) → s.asker.reverse ≡ true → (es : List Step) (clock : ℤ) (down : List TimedByte) → moment_of clock < 2 ^ 63 → Waits s k down → IsSchedule es → Mirrors s k (run s (still clock down) es)
+-- behind one more step
+behind_step : (s : Setup) (k : Calls s) (from then : World) (e : Step) (es : List Step) → happens s from e ≡ then → Mirrors s k then es → Mirrors s k from (e ∷ es)
+behind_step s k from then e es h (waits clock down lt w is) = waits clock down lt w (ap (λ x. run s x es) h ∙ is)
+behind_step s k from then e es h (goes start call before more lt c is cut came all) =
+    goes start call (e ∷ before) more lt c is (ap (λ l. e ∷ l) cut) (ap (λ x. run s x before) h ∙ came) (ap (λ x. run s x es) h ∙ all)
+
+pub mirrors : (s : Setup) (k : Calls s) → s.asker.reverse ≡ true → (es : List Step) (clock : ℤ) (down : List TimedByte) → moment_of clock < 2 ^ 63 → Waits s k down → IsSchedule es → Mirrors s k (still clock down) es
 mirrors s k own [] clock down lt w is = waits clock down lt w refl
 mirrors s k own (steps.Ask request part ∷ es) clock down lt w is =
-    subst (λ x. Mirrors s k (run s x es)) (sym (waits_told s k clock down (Ask request part) w)) (mirrors s k own es clock down lt w is.1)
-mirrors s k own (steps.Renew ∷ es) clock down lt w is =
-    subst (λ x. Mirrors s k (run s x es)) (sym (waits_told s k clock down Renew w)) (mirrors s k own es clock down lt w is.1)
-mirrors s k own (steps.Close ∷ es) clock down lt w is =
-    subst (λ x. Mirrors s k (run s x es)) (sym (waits_told s k clock down Close w)) (mirrors s k own es clock down lt w is.1)
-mirrors s k own (steps.Tick n ∷ es) clock down lt w is = mirrors s k own es (ticked (clock +ℤ pos n)) down (ticked_timely (clock +ℤ pos n)) w is.1
+    behind_step s k _ _ (steps.Ask request part) es (waits_told s k clock down (Ask request part) w) (mirrors s k own es clock down lt w is.1)
+mirrors s k own (steps.Renew ∷ es) clock down lt w is = behind_step s k _ _ steps.Renew es (waits_told s k clock down Renew w) (mirrors s k own es clock down lt w is.1)
+mirrors s k own (steps.Close ∷ es) clock down lt w is = behind_step s k _ _ steps.Close es (waits_told s k clock down Close w) (mirrors s k own es clock down lt w is.1)
+mirrors s k own (steps.Tick n ∷ es) clock down lt w is =
+    behind_step s k _ _ (steps.Tick n) es refl (mirrors s k own es (ticked (clock +ℤ pos n)) down (ticked_timely (clock +ℤ pos n)) w is.1)
 mirrors s k own (steps.Up n ∷ es) clock down lt w is =
     let none : delivered clock [] n (client_bytes s.asker [] down) ≡ [] = ap (delivered clock [] n) (waits_sends s k down own w) ∙ ap (map (at (moment_of clock))) (take_none n) in
-    subst (λ u. Mirrors s k (run s (record (still clock down) { up = u }) es)) (sym none) (mirrors s k own es clock down lt w is.1)
+    behind_step s k _ _ (steps.Up n) es (ap (λ u. record (still clock down) { up = u }) none) (mirrors s k own es clock down lt w is.1)
 mirrors s k own (steps.Down n ∷ es) clock down lt w is = by (drop n w.left) refl (λ down w. mirrors s k own es clock down lt w is.1)
   where
     come : List TimedByte
@@ -319,19 +328,19 @@ mirrors s k own (steps.Down n ∷ es) clock down lt w is = by (drop n w.left) re
     settled : (R : ClientReading) → R.fault ≡ None → came_by (still clock down) more R.fault ≡ still clock more
     settled R none = ap (came_by (still clock down) more) none
 
-    by : (rest : List ℕ) → drop n w.left ≡ rest → ((down : List TimedByte) → Waits s k down → Mirrors s k (run s (still clock down) es)) → Mirrors s k (run s (happens s (still clock down) (steps.Down n)) es)
+    by : (rest : List ℕ) → drop n w.left ≡ rest → ((down : List TimedByte) → Waits s k down → Mirrors s k (still clock down) es) → Mirrors s k (still clock down) (steps.Down n ∷ es)
     by (b ∷ rest) e on =
         let waits_on : Waits s k more = record { left = b ∷ rest; whole = ap (λ l. plain more ++ l) (sym e) ∙ whole; some = omega arith } in
         let fine = ap (λ (R : ClientReading). R.fault) (waits_reading s k more waits_on) in
-        subst (λ x. Mirrors s k (run s x es)) (sym (happened ∙ settled (client_reading_of s.asker [] more) fine)) (on more waits_on)
+        behind_step s k _ _ (steps.Down n) es (happened ∙ settled (client_reading_of s.asker [] more) fine) (on more waits_on)
     by [] e on =
         let c : Came s k more = record { bytes = sym (append-nil (plain more)) ∙ ap (λ l. plain more ++ l) (sym e) ∙ whole } in
         let reads = reads_image s k clock more [] [] own c in
         let fine : client_fault s.asker [] more ≡ None = ap (client_fault s.asker []) (sym (append-nil more)) ∙ ap (λ (R : ClientReading). R.fault) reads ∙ nothing_wrong (turned s k clock).asker in
         let there : still clock more ≡ image more (begun (turned s k clock)) = λ i. record { clock = clock; cmds = []; up = []; down = sym (append-nil more) i; settled = sym (append-nil more) i } in
         let all = happened ∙ settled (client_reading_of s.asker [] more) fine ∙ there in
-        subst (λ x. Mirrors s k (run s x es)) (sym all) (goes clock more es lt c is.1 (run_image s k clock more es (begun (turned s k clock)) own c))
+        behind_step s k _ _ (steps.Down n) es all (goes clock more [] es lt c is.1 refl refl (run_image s k clock more es (begun (turned s k clock)) own c))
 
-pub mirrored : (s : Setup) → IsSetup s → (k : Calls s) → s.asker.reverse ≡ true → (schedule : List Step) → IsSchedule schedule → Mirrors s k (final s schedule)
+pub mirrored : (s : Setup) → IsSetup s → (k : Calls s) → s.asker.reverse ≡ true → (schedule : List Step) → IsSchedule schedule → Mirrors s k (begun s) schedule
 mirrored s h k own schedule is =
     mirrors s k own schedule s.start [] h.start (record { left = called k; whole = refl; some = omega (arith, k.frame.there.header) }) is

@@ -26,12 +26,12 @@ use Rattle.ua_conn.proofs.BothEnds.MirrorLemmas.{Calls, calls_of, called, turned
 -- ---- behind the ReverseHello
 
 -- what the client makes of it
-matches_image : (s : Setup) (k : Calls s) (call : List TimedByte) (w : World) → s.asker.reverse ≡ true → Came s k call →
+pub matches_image : (s : Setup) (k : Calls s) (call : List TimedByte) (w : World) → s.asker.reverse ≡ true → Came s k call →
     matched s.asker (image call w).cmds (image call w).settled ≡ matched (turned s k w.clock).asker w.cmds w.settled
 matches_image s k call w own c =
     ap (λ (R : ClientReading). answers (image call w).cmds R.past) (reads_image s k w.clock call w.settled w.cmds own c) ∙ answers_behind w.cmds (frame_by call) (came_call s k call c) (client_reading_of (turned s k w.clock).asker w.cmds w.settled).past
 
-fault_image : (s : Setup) (k : Calls s) (call : List TimedByte) (w : World) → s.asker.reverse ≡ true → Came s k call → client_fault s.asker (image call w).cmds (image call w).down ≡ client_fault (turned s k w.clock).asker w.cmds w.down
+pub fault_image : (s : Setup) (k : Calls s) (call : List TimedByte) (w : World) → s.asker.reverse ≡ true → Came s k call → client_fault s.asker (image call w).cmds (image call w).down ≡ client_fault (turned s k w.clock).asker w.cmds w.down
 fault_image s k call w own c = ap (λ (R : ClientReading). R.fault) (reads_image s k w.clock call w.down w.cmds own c)
 
 -- what is asked at a later place is answered by the same
@@ -60,7 +60,7 @@ delivered_image s k start call w own c d = record {
 
 -- ---- before it
 
-empty : (s : Setup) (k : Calls s) (down : List TimedByte) → Waits s k down → matched s.asker [] down ≡ []
+pub empty : (s : Setup) (k : Calls s) (down : List TimedByte) → Waits s k down → matched s.asker [] down ≡ []
 empty s k down w = ap (λ (R : ClientReading). answers [] R.past) (waits_reading s k down w)
 
 -- nothing lives or dies where nothing came
@@ -76,12 +76,12 @@ not_all s k down w own e =
 
 -- ---- the law
 
-handed_reverse : (s : Setup) → IsSetup s → (k : Calls s) → s.asker.reverse ≡ true → (w : World) → Mirrors s k w → HandsAndAnswers s w
-handed_reverse s h k own w (waits clock down lt part e) =
+handed_reverse : (s : Setup) → IsSetup s → (k : Calls s) → s.asker.reverse ≡ true → (schedule : List Step) → Mirrors s k (begun s) schedule → HandsAndAnswers s (final s schedule)
+handed_reverse s h k own schedule (waits clock down lt part e) =
     let start = turned s k clock in
     let none = handed_plain start [] (turned_plain s h k clock lt) tt in
     subst (HandsAndAnswers s) (sym e) (none.0, subst (λ is. AnswersInOrder s [] (served s (still clock down)) is) (sym (empty s k down part)) tt)
-handed_reverse s h k own w (goes start call es lt c is e) =
+handed_reverse s h k own schedule (goes start call before es lt c is cut came e) =
     let v = final (turned s k start) es in
     let law = handed_plain (turned s k start) es (turned_plain s h k start lt) is in
     let n = length (plain call) in
@@ -92,19 +92,19 @@ handed_reverse s h k own w (goes start call es lt c is e) =
           (subst (λ is. AnswersInOrder s (asked_later n (asked_in v.cmds)) (served s (image call v)) is) (sym (matches_image s k call v own c)) order),
     )
 
-unrefused_reverse : (s : Setup) → IsSetup s → (k : Calls s) → s.asker.reverse ≡ true → (w : World) → Mirrors s k w → RefusesNothing s w
-unrefused_reverse s h k own w (waits clock down lt part e) =
+unrefused_reverse : (s : Setup) → IsSetup s → (k : Calls s) → s.asker.reverse ≡ true → (schedule : List Step) → Mirrors s k (begun s) schedule → RefusesNothing s (final s schedule)
+unrefused_reverse s h k own schedule (waits clock down lt part e) =
     let start = turned s k clock in
     let law = unrefused_plain start [] (turned_plain s h k clock lt) tt (calm_start start) in
     subst (RefusesNothing s) (sym e) (λ live. (law.0, ap (λ (R : ClientReading). R.fault) (waits_reading s k down part)))
-unrefused_reverse s h k own w (goes start call es lt c is e) =
+unrefused_reverse s h k own schedule (goes start call before es lt c is cut came e) =
     let v = final (turned s k start) es in
     let law = unrefused_plain (turned s k start) es (turned_plain s h k start lt) is in
     subst (RefusesNothing s) (sym e) (λ live. (let r = law (lives_image s k call v c live) in (r.0, fault_image s k call v own c ∙ r.1)))
 
-answered_reverse : (s : Setup) → IsSetup s → (k : Calls s) → s.asker.reverse ≡ true → (w : World) → Mirrors s k w → AnswersAll s w
-answered_reverse s h k own w (waits clock down lt part e) = subst (AnswersAll s) (sym e) (λ live d. absurd (not_all s k down part own d.down))
-answered_reverse s h k own w (goes start call es lt c is e) =
+answered_reverse : (s : Setup) → IsSetup s → (k : Calls s) → s.asker.reverse ≡ true → (schedule : List Step) → Mirrors s k (begun s) schedule → AnswersAll s (final s schedule)
+answered_reverse s h k own schedule (waits clock down lt part e) = subst (AnswersAll s) (sym e) (λ live d. absurd (not_all s k down part own d.down))
+answered_reverse s h k own schedule (goes start call before es lt c is cut came e) =
     let v = final (turned s k start) es in
     let n = length (plain call) in
     let law = answered_plain (turned s k start) es (turned_plain s h k start lt) is in
@@ -124,17 +124,17 @@ either {P} s on off = by s.asker.reverse refl
 pub handed_law : HandedAndAccepted
 handed_law s schedule h is =
     either {P = HandsAndAnswers s (final s schedule)} s
-    (λ own. (let k = calls_of s h own in handed_reverse s h k own (final s schedule) (mirrored s h k own schedule is)))
+    (λ own. (let k = calls_of s h own in handed_reverse s h k own schedule (mirrored s h k own schedule is)))
     (λ own. handed_plain s schedule (plain_of s h own) is)
 
 pub unrefused_law : NothingRefused
 unrefused_law s schedule h is =
     either {P = RefusesNothing s (final s schedule)} s
-    (λ own. (let k = calls_of s h own in unrefused_reverse s h k own (final s schedule) (mirrored s h k own schedule is)))
+    (λ own. (let k = calls_of s h own in unrefused_reverse s h k own schedule (mirrored s h k own schedule is)))
     (λ own. unrefused_plain s schedule (plain_of s h own) is)
 
 pub answered_law : NoneUnanswered
 answered_law s schedule h is =
     either {P = AnswersAll s (final s schedule)} s
-    (λ own. (let k = calls_of s h own in answered_reverse s h k own (final s schedule) (mirrored s h k own schedule is)))
+    (λ own. (let k = calls_of s h own in answered_reverse s h k own schedule (mirrored s h k own schedule is)))
     (λ own. answered_plain s schedule (plain_of s h own) is)
