@@ -14,8 +14,9 @@ impl Client {
     /// before 0, or before that of an earlier call, counts as that. OPC 10000-6, 6.7 and 7.1.2; OPC 10000-4, 5.6.2 and
     /// 7.35.
     ///
-    /// The result has the answers that the piece made whole, each with the request that was asked under its id. The
-    /// output gains the first open request, once the Acknowledge came.
+    /// The result has the answers that the piece made whole, each with the request that was asked under its id. Where the
+    /// server opens the connection, the output gains the Hello once the ReverseHello came; and it gains the first open
+    /// request once the Acknowledge came.
     ///
     /// # Errors
     ///
