@@ -1,10 +1,12 @@
 //! Addresses as people write them: a url in the place of one, or alone.
 
-use crate::link_words::{left_address, url_of};
-use crate::runs::{ends_so, expect};
+use crate::link_words::url_of;
+use crate::runs::expect;
 use std::alloc::{AllocError, Global};
 use ua_address::{address_of, is_url};
 use ua_command::{Command, WordsFault, command_of};
+use ua_test_runs::addresses::left_address;
+use ua_test_runs::pages::ends_so;
 
 /// Texts, and the addresses that they name, by the url's generic syntax (RFC 3986, 3.2) and the registered port.
 const ADDRESSES: [(&str, &str); 14] = [

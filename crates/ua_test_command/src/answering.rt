@@ -1,6 +1,6 @@
 //! The command `answer`: the forms of its lines, settings and what is wrong with them, and lines that are bad.
 
-use crate::runs::{Signs, ends_so, expect};
+use crate::runs::{Signs, expect};
 use std::alloc::{AllocError, Global};
 use std::fs;
 use std::net::Net;
@@ -8,6 +8,7 @@ use std::process::Abort;
 use std::rt::{Clock, Files};
 use std::test::Fail;
 use ua_disco::DEFAULT;
+use ua_test_runs::pages::ends_so;
 
 pub const HELLO: &str =
     "48454C46 38000000 00000000 FFFF0000 FFFF0000 00000000 00000000 18000000 6F70632E7463703A2F2F6C6F63616C686F73743A34383430";

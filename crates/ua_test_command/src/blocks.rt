@@ -1,7 +1,5 @@
 //! Replies of many bytes: their digits, byte for byte, in one write with a flush behind it, and what fails there.
 
-use crate::runs::Page;
-use crate::vectors::CALLS;
 use std::alloc::{AllocError, Global};
 use std::io::Write;
 use std::net::Net;
@@ -10,6 +8,8 @@ use std::{fs, io};
 use ua_command::run::run;
 use ua_conn::answer_all;
 use ua_disco::Settings;
+use ua_test_runs::pages::Page;
+use ua_test_runs::vectors::CALLS;
 
 /// What stands behind the digits.
 const LAST: &[u8] = b"\nend closed\n";

@@ -1,12 +1,13 @@
 //! Reads and writes that fail.
 
 use crate::answering::{HELLO, NOTHING};
-use crate::runs::{Page, Signs, ends_so, expect_failed_write};
+use crate::runs::{Signs, expect_failed_write};
 use std::io;
 use std::io::Write;
 use std::net::Net;
 use std::rt::{Clock, Files};
 use ua_command::run::run;
+use ua_test_runs::pages::{Page, ends_so};
 
 #[test]
 fn tells_failed_reads_and_writes(rt: HostRuntime) {

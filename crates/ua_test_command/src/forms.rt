@@ -1,9 +1,5 @@
 //! Answers and values in the forms of `--all`, `--show` and `--json`, and requests with locales and filters.
 
-use crate::runs::Page;
-use crate::vectors::{
-    ABORT_TOO_LARGE, ACKNOWLEDGE, ENDPOINTS_RESPONSE, FAULT_RESPONSE, FIND_RESPONSE, OPEN_RESPONSE,
-};
 use std::alloc::Global;
 use std::net::Net;
 use std::process::Abort;
@@ -11,6 +7,10 @@ use std::rt::{Clock as HostClock, Files};
 use ua_command::run::run;
 use ua_command::{Command, Form, Inquiry, Question, Why, ask_as, command_of};
 use ua_link::{Clock, MemoryLink};
+use ua_test_runs::pages::Page;
+use ua_test_runs::vectors::{
+    ABORT_TOO_LARGE, ACKNOWLEDGE, ENDPOINTS_RESPONSE, FAULT_RESPONSE, FIND_RESPONSE, OPEN_RESPONSE,
+};
 use ua_value::Array;
 use ua_value::plumbing::let_go;
 

@@ -1,4 +1,4 @@
-//! Tests of the command, by its public calls alone: over readers and writers of memory, files, and links over loopback.
+//! Tests of the command, by its public calls alone, over readers and writers of memory and files: its words, what it prints, and what it tells of a fault.
 //!
 //! Proofs cover what the contracts say; here stands what no clause says: what is printed on the usual inputs, byte for byte, that no more is read
 //! than is needed, and that each growth may be refused.
@@ -9,11 +9,7 @@ mod addresses;
 #[cfg(test)]
 mod answering;
 #[cfg(test)]
-mod asking;
-#[cfg(test)]
 mod blocks;
-#[cfg(test)]
-mod checks;
 #[cfg(test)]
 mod failures;
 #[cfg(test)]
@@ -23,15 +19,9 @@ mod hex_digits;
 #[cfg(test)]
 mod link_words;
 #[cfg(test)]
-mod many_loopback;
-#[cfg(test)]
 mod many_words;
 #[cfg(test)]
 mod memory;
-#[cfg(test)]
-mod moments;
-#[cfg(test)]
-mod outgoing;
 #[cfg(test)]
 mod packets;
 #[cfg(test)]
@@ -45,24 +35,12 @@ mod scripts;
 #[cfg(test)]
 mod second_lines;
 #[cfg(test)]
-mod serving;
-#[cfg(test)]
-mod serving_many;
-#[cfg(test)]
 mod showing;
 #[cfg(test)]
 mod showing_whole;
 #[cfg(test)]
 mod streams;
 #[cfg(test)]
-mod turns;
-#[cfg(test)]
 mod values;
-#[cfg(test)]
-mod vectors;
-#[cfg(test)]
-mod waiting;
-#[cfg(test)]
-mod whole_asks;
 #[cfg(test)]
 mod words;

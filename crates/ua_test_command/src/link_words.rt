@@ -1,9 +1,10 @@
 //! The words of `serve` and `ask`, and what stops them before a byte is sent.
 
-use crate::runs::{ends_so, expect};
+use crate::runs::expect;
 use crate::words::{expect_reason, expect_refusal};
 use std::alloc::{AllocError, Global};
-use std::net::{SocketAddr, TcpListener};
+use ua_test_runs::addresses::left_address;
+use ua_test_runs::pages::ends_so;
 
 /// A url of so many bytes.
 pub(crate) fn url_of(alloc: Global, len: usize) -> Result<String, AllocError> {
@@ -33,6 +34,31 @@ fn refuses_words_of_links(rt: HostRuntime) {
     expect_reason(&rt, &["ask", "endpoint", "a", "u"], "'endpoints'");
 }
 
+#[test]
+fn refuses_times(rt: HostRuntime) {
+    for seconds in ["0", "86401", "x", "", "-1", "1.5", "1s"] {
+        expect_refusal(&rt, &["ask", "find", "a:1", "u", "--timeout", seconds]);
+    }
+    expect_refusal(&rt, &["ask", "find", "a:1", "u", "--timeout"]);
+    expect_refusal(
+        &rt,
+        &[
+            "serve",
+            "default",
+            "a:1",
+            "--connections",
+            "1",
+            "--timeout",
+            "1",
+        ],
+    );
+    expect_reason(
+        &rt,
+        &["ask", "find", "a:1", "u", "--timeout", "0"],
+        "0 is not in 1..=86400",
+    );
+}
+
 /// The settings are judged before the address, and the address before anything is told.
 #[test]
 fn serves_nothing_where_it_cannot(rt: HostRuntime) {
@@ -45,14 +71,6 @@ fn serves_nothing_where_it_cannot(rt: HostRuntime) {
         let words = ["serve", settings, address, "--connections", "1"];
         expect(&rt, &words, "", 3, "", errors);
     }
-}
-
-/// An address of this host at which nobody listens any more.
-pub(crate) fn left_address(rt: &HostRuntime) -> Option<SocketAddr> {
-    let Ok(listener) = TcpListener::bind(rt, "127.0.0.1:0") else {
-        return None;
-    };
-    listener.local_addr().ok()
 }
 
 /// Whether the question at an address fails for its link at once.

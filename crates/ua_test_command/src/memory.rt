@@ -2,10 +2,10 @@
 
 use crate::answering::{ACKNOWLEDGED, HELLO};
 use crate::reversing::GREETED_AND_ACKNOWLEDGED;
-use crate::runs::{Page, are_written};
 use std::net::Net;
 use std::rt::{Clock, Files};
 use ua_command::run::run;
+use ua_test_runs::pages::{Page, are_written};
 
 /// Whether a run of the words ends with its full answer, or for want of memory with nothing printed.
 fn ends_so_or_no_memory<R: Files + Net + Clock + AllocGlobal>(

@@ -1,12 +1,13 @@
 //! `show` of files of packets.
 
-use crate::runs::{Page, fails_with};
+use crate::runs::fails_with;
 use std::io;
 use std::io::Read;
 use std::net::Net;
 use std::process::Abort;
 use std::rt::{Clock, Files};
 use ua_command::run::run;
+use ua_test_runs::pages::Page;
 
 /// A file of pcap with one packet: an error frame that an OPC UA client sends to port 4840, seven microseconds behind the
 /// beginning of 1970 (draft-ietf-opsawg-pcap, 4 and 5; LINKTYPE_RAW; RFC 791, RFC 9293).

@@ -1,10 +1,10 @@
 //! The lines of `show` for messages in parts: what of their parts tells their encoding id, parts of no bytes, and many parts.
 
-use crate::runs::{Page, are_written, ends_so};
 use std::alloc::{AllocError, Global};
 use std::net::Net;
 use std::rt::{Clock, Files};
 use ua_command::run::run;
+use ua_test_runs::pages::{Page, are_written, ends_so};
 
 /// Messages whose first part has the whole encoding id, of each form.
 const FIRST: &[u8] =

@@ -1,55 +1,14 @@
-//! Runs of the command over readers and writers of memory, and what is expected of them.
+//! Runs of the command over readers of memory, and what is expected of them.
 
 use crate::answering::HELLO;
 use std::io;
-use std::io::{Read, Write};
+use std::io::Read;
 use std::net::Net;
 use std::process::Abort;
 use std::rt::{Clock, Files};
 use ua_command::run::{run, run_and_say};
 use ua_command::{Why, say_why};
-
-/// A writer with room for so many bytes, which takes no memory and fails behind them.
-#[derive(Drop)]
-pub struct Page {
-    bytes: [u8; 4096],
-    pub len: usize,
-    room: usize,
-}
-
-impl Page {
-    /// A writer of nothing yet, with room for so many bytes, at most 4096.
-    pub fn new(room: usize) -> Page {
-        Page {
-            bytes: [0; 4096],
-            len: 0,
-            room,
-        }
-    }
-
-    /// What was written.
-    pub fn text(&self) -> &[u8] {
-        &self.bytes[..self.len.min(4096)]
-    }
-}
-
-impl Write for Page {
-    fn write(&mut self, buf: &[u8]) -> io::Result<usize> {
-        let start = self.len.min(4096);
-        let n = buf.len().min(self.room).min(4096 - start);
-        if n == 0 && !buf.is_empty() {
-            return Err(io::Error::from(io::ErrorKind::Other));
-        }
-        self.bytes[start..start + n].copy_from_slice(&buf[..n]);
-        self.len = start + n;
-        self.room -= n;
-        Ok(n)
-    }
-
-    fn flush(&mut self) -> io::Result<()> {
-        Ok(())
-    }
-}
+use ua_test_runs::pages::{Page, ends_so};
 
 /// A reader that gives number signs one at a time, so many, and then ends or fails.
 #[derive(Drop)]
@@ -74,26 +33,6 @@ impl Read for Signs {
         self.left -= 1;
         Ok(1)
     }
-}
-
-/// Whether just this stands on the two pages.
-pub fn are_written(printed: &Page, told: &Page, output: &str, errors: &str) -> bool {
-    printed.text() == output.as_bytes() && told.text() == errors.as_bytes()
-}
-
-/// Whether a run of the words on an input ends with the status, and prints and tells just this.
-pub fn ends_so<R: Files + Net + Clock + AllocGlobal, I: Read>(
-    rt: &R,
-    words: &[&str],
-    input: &mut I,
-    status: u8,
-    output: &str,
-    errors: &str,
-) -> bool {
-    let mut printed = Page::new(4096);
-    let mut told = Page::new(4096);
-    let came = run(rt, words, input, &mut printed, &mut told);
-    came == status && are_written(&printed, &told, output, errors)
 }
 
 /// Runs the words on an input, and compares what is printed and the exit status.
@@ -135,11 +74,6 @@ pub fn fails_with<I: Read>(
     let came = run_and_say(rt, words, input, &mut printed, &mut told, &mut why);
     say_why(rt, words, &why, &mut told);
     came == 3 && told.text() == said.as_bytes()
-}
-
-/// Whether it is known that standard output could not be written.
-pub fn is_output(why: &Why) -> bool {
-    matches!(why, Why::Output)
 }
 
 /// Runs words whose output has not enough room.

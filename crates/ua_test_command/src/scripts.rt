@@ -2,12 +2,12 @@
 //! them, and lines with something that is no digit, wherever it stands.
 
 use crate::blocks::{Fails, in_hex, is_printed, reply_by};
-use crate::runs::ends_so;
-use crate::vectors::CALLS;
 use std::alloc::{AllocError, Global};
 use std::net::Net;
 use std::rt::{Clock, Files};
 use ua_disco::DEFAULT;
+use ua_test_runs::pages::ends_so;
+use ua_test_runs::vectors::CALLS;
 
 /// Digits in pieces of so many, with a text behind each.
 fn cut(alloc: Global, digits: &[u8], width: usize, behind: &[u8]) -> Result<Vec<u8>, AllocError> {

@@ -1,12 +1,13 @@
 //! The second line of a fault, for people: which file or address it was, what the system said, and what to try.
 
-use crate::link_words::left_address;
-use crate::runs::{Page, Signs, fails_with};
+use crate::runs::{Signs, fails_with};
 use std::test::Fail;
 use std::{fs, io};
 use ua_command::{Why, say_why};
 use ua_disco::DEFAULT;
 use ua_socket::Reason;
+use ua_test_runs::addresses::left_address;
+use ua_test_runs::pages::Page;
 
 /// Words whose output finds no room.
 fn fails(rt: &HostRuntime, words: &[&str], said: &str) -> bool {

@@ -1,6 +1,6 @@
 //! The lines of `show`.
 
-use crate::runs::{Page, are_written, ends_so, expect, expect_failed_write};
+use crate::runs::{expect, expect_failed_write};
 use std::alloc::{AllocError, Global};
 use std::fs;
 use std::net::Net;
@@ -8,6 +8,7 @@ use std::process::Abort;
 use std::rt::{Clock, Files};
 use std::test::Fail;
 use ua_command::run::run;
+use ua_test_runs::pages::{Page, are_written, ends_so};
 
 /// What a client sends that asks for servers: a Hello, an open request, FindServers and a close.
 const CAPTURE: &[u8] =

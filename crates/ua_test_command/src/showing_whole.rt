@@ -1,8 +1,7 @@
 //! `show --all`: all that servers answered, under the lines of their answers.
 
 use crate::forms::{WHOLE_APPLICATION, WHOLE_ENDPOINT};
-use crate::runs::{Page, are_written, ends_so, expect};
-use crate::vectors::{ABORT_TOO_LARGE, ENDPOINTS_RESPONSE, FAULT_RESPONSE, FIND_RESPONSE};
+use crate::runs::expect;
 use std::alloc::{AllocError, Global};
 use std::fs;
 use std::net::Net;
@@ -10,6 +9,8 @@ use std::rt::{Clock, Files};
 use std::test::Fail;
 use ua_command::run::run;
 use ua_command::{Command, Form, command_of};
+use ua_test_runs::pages::{Page, are_written, ends_so};
+use ua_test_runs::vectors::{ABORT_TOO_LARGE, ENDPOINTS_RESPONSE, FAULT_RESPONSE, FIND_RESPONSE};
 use ua_value::plumbing::let_go;
 
 /// Answers of both kinds, and what comes in their place.

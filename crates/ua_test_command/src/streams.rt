@@ -1,6 +1,6 @@
 //! What the command takes of its streams: settings whole, of standard input nothing where it needs none, and its output flushed before it ends.
 
-use crate::runs::{Page, expect};
+use crate::runs::expect;
 use std::alloc::{AllocError, Global};
 use std::io::{Read, Write};
 use std::net::Net;
@@ -8,6 +8,7 @@ use std::rt::{Clock, Files};
 use std::{fs, io};
 use ua_command::run::run;
 use ua_disco::DEFAULT;
+use ua_test_runs::pages::Page;
 
 /// The built-in settings behind a comment, 70000 bytes in all.
 fn long_settings(alloc: Global) -> Result<Vec<u8>, AllocError> {

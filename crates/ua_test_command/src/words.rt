@@ -1,10 +1,11 @@
 //! Words that are refused, with the reason, and words that ask for help or the version.
 
-use crate::runs::{Page, expect};
+use crate::runs::expect;
 use std::net::Net;
 use std::process::Abort;
 use std::rt::{Clock, Files};
 use ua_command::run::run;
+use ua_test_runs::pages::{Page, has};
 
 /// Whether clap refuses the words: it tells its text, and nothing is read or printed.
 fn are_refused<R: Files + Net + Clock + AllocGlobal>(rt: &R, words: &[&str]) -> bool {
@@ -19,16 +20,6 @@ fn are_refused<R: Files + Net + Clock + AllocGlobal>(rt: &R, words: &[&str]) -> 
 /// Runs words that clap refuses, and looks for its text and for nothing else.
 pub fn expect_refusal<R: Files + Net + Clock + AllocGlobal + Abort>(rt: &R, words: &[&str]) {
     assert!(rt; are_refused(rt, words));
-}
-
-/// Whether some bytes have this text in them.
-pub(crate) fn has(bytes: &[u8], part: &str) -> bool {
-    for at in 0..bytes.len() {
-        if bytes[at..].starts_with(part.as_bytes()) {
-            return true;
-        }
-    }
-    false
 }
 
 /// Whether the words are refused with a text that has this part.

@@ -2,14 +2,14 @@
 
 ghost use Rattle.std.specs.Prelude.{◌≤◌, IfSome, length};
 
-use crate::runs::Page;
-use crate::vectors::{
-    ACKNOWLEDGE, CLOSE_REQUEST, ENDPOINTS_RESPONSE, FIND_REQUEST, FIND_REQUEST_WITHOUT_URL,
-    FIND_RESPONSE, OPEN_RESPONSE, REVERSE_HELLO,
-};
 use std::alloc::Global;
 use ua_command::{Question, Why, ask_over};
 use ua_link::{Clock, MemoryLink};
+use ua_test_runs::pages::Page;
+use ua_test_runs::vectors::{
+    ACKNOWLEDGE, CLOSE_REQUEST, ENDPOINTS_RESPONSE, FIND_REQUEST, FIND_REQUEST_WITHOUT_URL,
+    FIND_RESPONSE, OPEN_RESPONSE, REVERSE_HELLO,
+};
 
 const URL: &str = "opc.tcp://localhost:4840";
 

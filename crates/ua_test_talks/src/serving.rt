@@ -1,7 +1,5 @@
 //! Connections over loopback: each client connects and says all before it is served, so neither waits.
 
-use crate::runs::{Page, is_output};
-use crate::vectors::{ACKNOWLEDGE, CALLS};
 use std::io;
 use std::io::{Read, Write};
 use std::net::{
@@ -11,6 +9,8 @@ use std::time::Duration;
 use ua_command::{Why, serve_on, status_with};
 use ua_conn::End;
 use ua_disco::{DEFAULT, Settings};
+use ua_test_runs::pages::{Page, is_output};
+use ua_test_runs::vectors::{ACKNOWLEDGE, CALLS};
 
 /// How many seconds a read over loopback waits at most.
 const PATIENCE: u64 = 20;

@@ -2,14 +2,14 @@
 
 ghost use Rattle.std.specs.Prelude.{◌≡◌, ◌<◌, ◌≤◌, ◌-◌, ◌^◌, IfSome, length};
 
-use crate::runs::{Page, is_output};
-use crate::vectors::{
-    ABORT_TOO_LARGE, ACKNOWLEDGE, BOTH_FOUND, CLOSE_REQUEST, ENDPOINTS_RESPONSE, FAULT_RESPONSE,
-    FIND_REQUEST, FIND_RESPONSE, OPEN_RESPONSE, REVERSE_HELLO,
-};
 use std::alloc::Global;
 use ua_command::{Question, Why, ask_over};
 use ua_link::{Clock, Link, LinkFault, MemoryLink};
+use ua_test_runs::pages::{Page, is_output};
+use ua_test_runs::vectors::{
+    ABORT_TOO_LARGE, ACKNOWLEDGE, BOTH_FOUND, CLOSE_REQUEST, ENDPOINTS_RESPONSE, FAULT_RESPONSE,
+    FIND_REQUEST, FIND_RESPONSE, OPEN_RESPONSE, REVERSE_HELLO,
+};
 
 const URL: &str = "opc.tcp://localhost:4840";
 

@@ -1,7 +1,5 @@
 //! The command `serve` with several connections at one time, over loopback.
 
-use crate::runs::Page;
-use crate::vectors::{ACKNOWLEDGE, CALLS};
 use std::io::{Read, Write};
 use std::net::{Shutdown, TcpStream};
 use std::time::Duration;
@@ -9,6 +7,8 @@ use ua_command::{Crowd, Why, serve_sockets};
 use ua_disco::{DEFAULT, Settings};
 use ua_link::MachineClock;
 use ua_serve::TcpSockets;
+use ua_test_runs::pages::Page;
+use ua_test_runs::vectors::{ACKNOWLEDGE, CALLS};
 
 /// How many seconds a read over loopback waits at most.
 const LONGEST: u64 = 20;

@@ -1,10 +1,10 @@
 //! The moments in what `ask` says: each is what its clock said when it was asked for it.
 
-use crate::runs::Page;
-use crate::vectors::{ACKNOWLEDGE, FIND_RESPONSE, OPEN_RESPONSE};
 use std::alloc::Global;
 use ua_command::{Question, Why, ask_over};
 use ua_link::{Clock, MemoryLink};
+use ua_test_runs::pages::Page;
+use ua_test_runs::vectors::{ACKNOWLEDGE, FIND_RESPONSE, OPEN_RESPONSE};
 
 /// 2026-01-01 00:00 UTC in ticks of 100 ns since 1601, and the ticks of a second.
 const START: i64 = 134_116_992_000_000_000;

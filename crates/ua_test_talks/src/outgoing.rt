@@ -1,11 +1,6 @@
 //! Connections that `serve` makes: to a client that speaks over a network of the test's, and over loopback to one that
 //! listens, which is heard no more, or to none.
 
-use crate::link_words::left_address;
-use crate::reversing::{NO_ENDPOINT, long_settings};
-use crate::runs::{Page, is_output};
-use crate::vectors::CALLS;
-use crate::words::has;
 use std::alloc::Global;
 use std::io;
 use std::io::{Read, Write};
@@ -15,6 +10,10 @@ use std::rt::Clock;
 use std::time::Duration;
 use ua_command::{Why, serve_to};
 use ua_disco::{DEFAULT, Settings, SettingsFault};
+use ua_test_runs::addresses::left_address;
+use ua_test_runs::pages::{Page, has, is_output};
+use ua_test_runs::settings::{NO_ENDPOINT, long_settings};
+use ua_test_runs::vectors::CALLS;
 
 /// A stream whose other end makes the calls of a client at once and then is silent, and hears all; or one that fails.
 #[derive(Clone, Copy)]

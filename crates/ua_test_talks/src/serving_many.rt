@@ -2,13 +2,12 @@
 
 ghost use Rattle.std.specs.Prelude.{◌≡◌};
 
-use crate::runs::{Page, is_output};
-use crate::vectors::CALLS;
-use crate::words::has;
 use ua_command::{Crowd, Why, serve_sockets};
 use ua_disco::{DEFAULT, Settings};
 use ua_link::{Clock, LinkFault, ReadyLink};
 use ua_serve::{Accepted, Sockets};
+use ua_test_runs::pages::{Page, has, is_output};
+use ua_test_runs::vectors::CALLS;
 
 /// A clock that gains half a second each time that it is asked.
 #[derive(Clone, Copy)]

@@ -3,10 +3,6 @@
 ghost use Rattle.std.specs.Prelude.{◌≡◌, ◌==◌, Bool};
 
 use crate::asking::{PRESS, answer_over};
-use crate::link_words::left_address;
-use crate::runs::{Page, ends_so};
-use crate::vectors::{ACKNOWLEDGE, FIND_RESPONSE, OPEN_RESPONSE};
-use crate::words::{expect_reason, expect_refusal};
 use std::alloc::Global;
 use std::net::{Net, TcpListener};
 use std::rt::{Clock, Files};
@@ -15,6 +11,9 @@ use ua_command::run::run;
 use ua_command::{Question, Why};
 use ua_link::Link;
 use ua_socket::{NotDone, Reason, Stream, TimedLink, Timer, Wanted};
+use ua_test_runs::addresses::left_address;
+use ua_test_runs::pages::{Page, ends_so};
+use ua_test_runs::vectors::{ACKNOWLEDGE, FIND_RESPONSE, OPEN_RESPONSE};
 
 const URL: &str = "opc.tcp://localhost:4840";
 
@@ -211,31 +210,6 @@ fn is_silent_then(halt: usize) -> bool {
 #[test]
 fn nothing_is_read_behind_the_time(_rt: HostRuntime) {
     assert!(_rt; is_silent_then(ANSWER));
-}
-
-#[test]
-fn refuses_times(rt: HostRuntime) {
-    for seconds in ["0", "86401", "x", "", "-1", "1.5", "1s"] {
-        expect_refusal(&rt, &["ask", "find", "a:1", "u", "--timeout", seconds]);
-    }
-    expect_refusal(&rt, &["ask", "find", "a:1", "u", "--timeout"]);
-    expect_refusal(
-        &rt,
-        &[
-            "serve",
-            "default",
-            "a:1",
-            "--connections",
-            "1",
-            "--timeout",
-            "1",
-        ],
-    );
-    expect_reason(
-        &rt,
-        &["ask", "find", "a:1", "u", "--timeout", "0"],
-        "0 is not in 1..=86400",
-    );
 }
 
 /// Whether the question ends within some seconds, for a want of a link.

@@ -1,12 +1,12 @@
 //! How long a connection is served that never ends: 65536 reads.
 
-use crate::runs::Page;
-use crate::vectors::CALLS;
 use std::io;
 use std::io::{Read, Write};
 use std::net::{Ipv4Addr, OpenListener, SocketAddr, SocketAddrV4};
 use ua_command::{Why, serve_on};
 use ua_disco::{DEFAULT, Settings};
+use ua_test_runs::pages::Page;
+use ua_test_runs::vectors::CALLS;
 
 /// The header of the longest message that a server takes by the settings by default. It is whole after 65535 bytes.
 const LONGEST: &[u8; 8] = b"MSGF\xFF\xFF\0\0";

@@ -1,10 +1,5 @@
 //! What a server offers, laid beside settings, over links of memory.
 
-use crate::runs::{Page, is_output};
-use crate::vectors::{
-    ABORT_TOO_LARGE, ACKNOWLEDGE, BOTH_FOUND, ENDPOINTS_RESPONSE, FAULT_RESPONSE, FIND_RESPONSE,
-    OPEN_RESPONSE,
-};
 use std::alloc::Global;
 use std::net::Net;
 use std::process::Abort;
@@ -13,6 +8,11 @@ use ua_command::run::run;
 use ua_command::{Question, Why, check_over};
 use ua_disco::{DEFAULT, Settings};
 use ua_link::{Clock, MemoryLink};
+use ua_test_runs::pages::{Page, is_output};
+use ua_test_runs::vectors::{
+    ABORT_TOO_LARGE, ACKNOWLEDGE, BOTH_FOUND, ENDPOINTS_RESPONSE, FAULT_RESPONSE, FIND_RESPONSE,
+    OPEN_RESPONSE,
+};
 use ua_value::plumbing::let_go;
 
 const URL: &str = "opc.tcp://localhost:4840";
