@@ -369,3 +369,42 @@ fn two_or_no_memory(rt: &HostRuntime) -> bool {
 fn serves_two_or_no_memory(rt: HostRuntime) {
     assert!(rt; two_or_no_memory(&rt));
 }
+
+/// The lines of two that say nothing, one after the other.
+const SILENT: &str =
+    "connection 1 input-ended read 0 written 0\nconnection 2 input-ended read 0 written 0\n";
+
+/// The same without memory for the first, and without memory for the second.
+const NO_FIRST: &str =
+    "connection 1 memory read 0 written 0\nconnection 2 input-ended read 0 written 0\n";
+
+const NO_SECOND: &str =
+    "connection 1 input-ended read 0 written 0\nconnection 2 memory read 0 written 0\n";
+
+/// Whether each has its whole line, or nothing begins. As nothing is said, a connection wants memory only as it begins.
+fn silent_or_no_memory(rt: &HostRuntime) -> bool {
+    let clients = [leaving(b""), leaving(b"")];
+    let mut printed = Page::new(4096);
+    let mut told = Page::new(4096);
+    match serve(
+        rt,
+        coming(&clients),
+        2,
+        1,
+        &mut printed,
+        &mut told,
+        &mut Why::Unknown,
+    ) {
+        None => true,
+        Some(0) => printed.text() == SILENT.as_bytes() && told.len == 0,
+        Some(4) if printed.len == 0 => told.text() == b"memory\n".as_slice(),
+        Some(4) if printed.text() == NO_FIRST.as_bytes() => told.len == 0,
+        Some(4) => printed.text() == NO_SECOND.as_bytes() && told.len == 0,
+        _ => false,
+    }
+}
+
+#[test]
+fn each_has_its_line_or_no_memory(rt: HostRuntime) {
+    assert!(rt; silent_or_no_memory(&rt));
+}
