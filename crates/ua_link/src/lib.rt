@@ -14,12 +14,12 @@ mod tcp_link;
 mod turn;
 
 pub use client_turn::{ClientTurn, pump_client, send_output};
-pub use clock::{Clock, MachineClock};
+pub use clock::{Clock, MachineClock, SteadyClock};
 pub use connection::{Over, ReadyTurn, ServerConnection};
 pub use link::{Link, LinkFault};
 pub use memory_link::MemoryLink;
-pub use ready_link::ReadyLink;
-pub use ready_stream::ReadyStream;
+pub use ready_link::{Call, ReadyLink};
+pub use ready_stream::{EndOutput, ReadyStream};
 pub use serving::{Report, serve_connection, serve_connection_reverse};
 pub use tcp_link::TcpLink;
 pub use turn::{Turn, pump};

@@ -1,10 +1,20 @@
 //! Both directions of a connection, where no call waits.
 
-ghost use Rattle.std.specs.Prelude.{◌≡◌, ◌-◌, ◌<◌, ◌^◌, ℕ, List, length, Option, None};
+ghost use Rattle.std.specs.Prelude.{◌≡◌, ◌-◌, ◌<◌, ◌^◌, ℕ, List, [], ◌∷◌, length, Option, None};
 ghost use Rattle.ua_link.specs.Link.{Counts};
-ghost use Rattle.ua_link.specs.ReadyLink.{ReadsNow, SendsNow};
+ghost use Rattle.ua_link.specs.ReadyLink.{ReadsNow, SendsNow, Tries};
+ghost use Rattle.ua_link.specs.declared.ready_link.Call.{Call};
 
 use crate::link::LinkFault;
+
+/// A call of a link that was tried, whatever came of it.
+#[derive(Clone, Copy, Debug, PartialEq, Eq)]
+pub enum Call {
+    /// [`ReadyLink::recv_now`].
+    Read,
+    /// [`ReadyLink::send_now`].
+    Write,
+}
 
 /// Both directions of a connection, of which no call waits: one that can do nothing now says so.
 pub trait ReadyLink {
@@ -16,6 +26,10 @@ pub trait ReadyLink {
 
     /// How many calls failed so far.
     ghost fault_count: { Self → ℕ };
+
+    /// The reads and writes that were tried so far, in their order, where they are known: a link may keep no record of
+    /// them, or lose it.
+    ghost tried: { Self → Option (List Call) } = { λ _. None };
 
     /// Reads what is there of the next bytes into the front of `buf`, which has room for one at least, and says how many
     /// came: `Some(0)` is the end of the input, and `None` says that nothing is there now. Fewer than 2^64 - 1 calls
@@ -29,7 +43,8 @@ pub trait ReadyLink {
         requires countable { fault_count self.old < 2 ^ 64 - 1 }
         ensures bytes { ReadsNow (input self.old) (input self.new) result buf.new }
         ensures kept { output self.new ≡ output self.old }
-        ensures counted { Counts result (fault_count self.old) (fault_count self.new) };
+        ensures counted { Counts result (fault_count self.old) (fault_count self.new) }
+        ensures tried { Tries (tried self.old) (tried self.new) (Call.Read ∷ []) };
 
     /// Writes a beginning of `bytes`, which are one at least, and says how many went out: one at least. `None` says that
     /// none can go out now. Fewer than 2^64 - 1 calls failed before.
@@ -42,7 +57,15 @@ pub trait ReadyLink {
         requires countable { fault_count self.old < 2 ^ 64 - 1 }
         ensures bytes { SendsNow (output self.old) (output self.new) result bytes.now }
         ensures kept { input self.new ≡ input self.old }
-        ensures counted { Counts result (fault_count self.old) (fault_count self.new) };
+        ensures counted { Counts result (fault_count self.old) (fault_count self.new) }
+        ensures tried { Tries (tried self.old) (tried self.new) (Call.Write ∷ []) };
+
+    /// Says to the other end that no more bytes come. A failure to do so is passed over, and not counted.
+    fn end_output(&mut self)
+        ensures input { input self.new ≡ input self.old }
+        ensures output { output self.new ≡ output self.old }
+        ensures uncounted { fault_count self.new ≡ fault_count self.old }
+        ensures untried { tried self.new ≡ tried self.old };
 
     /// How many calls failed so far.
     fn failures(&self) -> u64

@@ -4,8 +4,23 @@ ghost use Rattle.std.specs.Prelude.{◌≡◌};
 
 use crate::link::LinkFault;
 use crate::ready_link::ReadyLink;
+use mio::net::TcpStream;
 use std::io;
 use std::io::{Read, Write};
+use std::net::Shutdown;
+
+/// A stream that can tell the other end that no more bytes come.
+pub trait EndOutput {
+    /// Tells it so. A failure is passed over.
+    fn end_output(&mut self);
+}
+
+impl EndOutput for TcpStream {
+    /// Shuts the side that writes.
+    fn end_output(&mut self) {
+        let _ = self.shutdown(Shutdown::Write);
+    }
+}
 
 /// A link over a stream of the host's that does not wait. It tells its count of faults alone: what a socket carries is
 /// not known.
@@ -27,7 +42,7 @@ impl<S> ReadyStream<S> {
     }
 }
 
-impl<S: Read + Write> ReadyLink for ReadyStream<S> {
+impl<S: Read + Write + EndOutput> ReadyLink for ReadyStream<S> {
     ghost fault_count = { λ l. l.failures };
 
     /// Reads from the stream once.
@@ -60,6 +75,10 @@ impl<S: Read + Write> ReadyLink for ReadyStream<S> {
                 Err(LinkFault)
             }
         }
+    }
+
+    fn end_output(&mut self) {
+        self.stream.end_output();
     }
 
     fn failures(&self) -> u64 {

@@ -139,6 +139,8 @@ impl<'a> ReadyLink for Caller<'a> {
         Err(LinkFault)
     }
 
+    fn end_output(&mut self) {}
+
     fn failures(&self) -> u64 {
         self.failures
     }
@@ -181,6 +183,10 @@ impl<'a> ReadyLink for Noting<'a> {
             Ok(None) => Ok(None),
             Err(fault) => Err(fault),
         }
+    }
+
+    fn end_output(&mut self) {
+        self.caller.end_output();
     }
 
     fn failures(&self) -> u64 {

@@ -67,6 +67,8 @@ impl<'a> ReadyLink for Caller<'a> {
         Err(LinkFault)
     }
 
+    fn end_output(&mut self) {}
+
     fn failures(&self) -> u64 {
         self.failures
     }
