@@ -1,7 +1,7 @@
 -- How the command `serve` is done or stopped, from its settings and from what was served by them.
 use Rattle.std.proofs.Common.{◌≡◌, ◌∙◌, ◌⊎◌, ap, inl, inr, ℕ, Bool, false, true≢false, Result, Ok, Err, IfOk, IfErr, subst, sym}
 use Rattle.ua_disco.specs.Configuration.{Configuration}
-use Rattle.ua_command.specs.Serve.{IsServeStatus, IsServingStop, IsServedStatus, IsServeStop, Serves}
+use Rattle.ua_command.specs.Serve.{IsServeStatus, IsServingStop, IsServedStatus, IsServeStop, IsUnbound, Serves}
 use Rattle.ua_command.specs.Settings.{IsSettings}
 use Rattle.ua_command.specs.Stop.{status_of}
 use Rattle.ua_words.specs.declared.source.Source.{Source}
@@ -42,3 +42,8 @@ served_by reverse source settings (Err stop) s h = h
 pub unlinked : (source : Source) (r : Result ℕ Stop) → IfErr r (λ stop. stop ≡ Link) → IfErr r (IsServeStop source)
 unlinked source (Ok status) h = h
 unlinked source (Err stop) h = subst (IsServeStop source) (sym h) tt
+
+pub unbound : (source : Source) (r : Result ℕ Stop) → IfErr r IsUnbound → IfErr r (IsServeStop source)
+unbound source (Ok status) h = h
+unbound source (Err stop) (inl e) = subst (IsServeStop source) (sym e) tt
+unbound source (Err stop) (inr e) = subst (IsServeStop source) (sym e) tt

@@ -1,5 +1,8 @@
 -- What stops the command `serve`, and its exit statuses.
 use Rattle.std.specs.Prelude.{◌≡◌, ◌⊎◌, ◌==◌, ℕ, Bool, if◌then◌else◌}
+use Rattle.std.specs.IoError.{error_kind}
+use Rattle.std.specs.declared.io.Error.{Error}
+use Rattle.std.specs.declared.io.ErrorKind.TheVariants.{OutOfMemory}
 use Rattle.ua_conn.specs.declared.outcome.End.{End}
 use Rattle.ua_conn.specs.declared.outcome.End.TheVariants as ends
 use Rattle.ua_disco.specs.Configuration.{Configuration}
@@ -38,6 +41,14 @@ IsServingStop reverse settings NoMemory = ⊥
 -- how a run ends: as said above, or with 1 where the settings are the reason
 abbrev pub IsServedStatus : Bool → Configuration → ℕ → Type 0
 IsServedStatus reverse settings status = IsServeStatus status ⊎ ((status ≡ 1) × ((fault : ReverseFault) × CannotOpen reverse settings fault))
+
+-- Nothing can listen: for want of memory where the error says so, else the link is the reason.
+abbrev pub IsBindStop : Error → Stop → Type 0
+IsBindStop error stop = (error_kind error ≡ OutOfMemory → stop ≡ NoMemory) × ((stop ≡ Link) ⊎ ((stop ≡ NoMemory) × (error_kind error ≡ OutOfMemory)))
+
+-- either of these
+abbrev pub IsUnbound : Stop → Type 0
+IsUnbound stop = (stop ≡ NoMemory) ⊎ (stop ≡ Link)
 
 -- Before anything is served, the settings may be refused, or nothing can listen at the address.
 abbrev pub IsServeStop : Source → Stop → Type 0

@@ -23,7 +23,7 @@ pub use ask::inquiry::Inquiry;
 pub use ask::{ask_as, ask_over};
 pub use check::check_over;
 pub use saying::say_why;
-pub use serve::many::{Crowd, serve_sockets};
+pub use serve::many::{Crowd, serve_many, serve_sockets};
 pub use serve::{serve_on, serve_to, status_with};
 pub use stop::Stop;
 pub use ua_words::{Capture, Command, Form, Question, Source, WordsFault, command_of};

@@ -39,7 +39,7 @@ fn listener_at<R: Net>(rt: &R, address: &str) -> io::Result<TcpListener> {
 
 impl TcpSockets {
     /// Listens at the first of the addresses that the text names at which that can be done, for connections with so many
-    /// places. Without memory it answers an error too.
+    /// places. Without memory it answers an error too, of the kind `OutOfMemory`.
     pub fn bind<R: Net>(
         rt: &R,
         alloc: Global,

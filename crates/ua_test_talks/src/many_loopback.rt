@@ -3,11 +3,11 @@
 use std::io::{Read, Write};
 use std::net::{Shutdown, TcpStream};
 use std::time::Duration;
-use ua_command::{Crowd, Why, serve_sockets};
+use ua_command::{Crowd, Source, Stop, Why, serve_many, serve_sockets};
 use ua_disco::{DEFAULT, Settings};
 use ua_link::MachineClock;
 use ua_serve::TcpSockets;
-use ua_test_runs::pages::Page;
+use ua_test_runs::pages::{Page, has};
 use ua_test_runs::vectors::{ACKNOWLEDGE, CALLS};
 
 /// How many seconds a read over loopback waits at most.
@@ -92,4 +92,36 @@ fn serves_over_loopback(rt: &HostRuntime) -> bool {
 #[test]
 fn a_client_that_stays_holds_up_nobody(rt: HostRuntime) {
     assert!(rt; serves_over_loopback(&rt));
+}
+
+/// Whether it listens for nobody, or ends for want of memory before it listens or behind that.
+fn listens_or_not(rt: &HostRuntime) -> bool {
+    let crowd = Crowd {
+        connections: 0,
+        at_once: 2,
+        patience: 1,
+    };
+    let (mut printed, mut told) = (Page::new(4096), Page::new(4096));
+    let came = serve_many(
+        rt,
+        &Source::Default,
+        "127.0.0.1:0",
+        crowd,
+        &mut printed,
+        &mut told,
+        &mut Why::Unknown,
+    );
+    let listened = has(told.text(), "listening 127.0.0.1:");
+    let memory = has(told.text(), "memory\n");
+    match came {
+        Ok(0) => listened && !memory,
+        Ok(4) => listened && memory,
+        Err(Stop::NoMemory) => told.len == 0,
+        _ => false,
+    }
+}
+
+#[test]
+fn listens_or_no_memory(rt: HostRuntime) {
+    assert!(rt; listens_or_not(&rt));
 }

@@ -1,7 +1,7 @@
 //! The command `serve` with several connections at one time.
 
-ghost use Rattle.std.specs.Prelude.{◌≡◌, ◌⊎◌, false, Err, IsOk, IfOk, IfErr, MatchResult};
-ghost use Rattle.ua_command.specs.Serve.{IsServeStatus, IsServeStop, Serves};
+ghost use Rattle.std.specs.Prelude.{◌≡◌, ◌⊎◌, false, Err, IsOk, IfOk, IfErr, IsErrAnd, MatchResult};
+ghost use Rattle.ua_command.specs.Serve.{IsBindStop, IsServeStatus, IsServeStop, IsUnbound, Serves};
 ghost use Rattle.ua_command.specs.Why.{IsKnown};
 
 use crate::ending::Ending;
@@ -11,7 +11,7 @@ use crate::settings::settings_in;
 use crate::stop::Stop;
 use crate::why::Why;
 use std::alloc::Global;
-use std::io::Write;
+use std::io::{ErrorKind, Write};
 use std::net::Net;
 use std::rt::{Clock as HostClock, Files};
 use std::{fmt, io};
@@ -201,7 +201,18 @@ fn tell_place<E: Write>(sockets: &TcpSockets, errors: &mut E) {
     }
 }
 
-/// Tells where the sockets listen, and serves there. `Link` says that there are none, and nothing else is said of that.
+/// What it is to the command that nothing can listen.
+fn stop_of_bind(error: &io::Error) -> Stop
+    ensures { IsBindStop error.now result }
+{
+    match error.kind() {
+        ErrorKind::OutOfMemory => Stop::NoMemory,
+        _ => Stop::Link,
+    }
+}
+
+/// Tells where the sockets listen, and serves there. `NoMemory` says that there was no memory for them, `Link` that there
+/// are none, and nothing else is said of that.
 fn serve_at<R, O, E>(
     rt: &R,
     settings: &Settings,
@@ -215,15 +226,16 @@ where
     R: HostClock + AllocGlobal,
     O: Write,
     E: Write,
-    ensures bound { MatchResult sockets (λ _. IsOk result) (λ _. result ≡ Err Stop.Link) }
+    ensures bound { MatchResult sockets (λ _. IsOk result) (λ error. IsErrAnd result (IsBindStop error)) }
     ensures known { IfErr sockets (λ _. IsKnown why.old) → result ≡ Err Stop.Link → IsKnown why.new }
     ensures ok { IfOk result IsServeStatus }
-    ensures err { IfErr result (λ stop. stop ≡ Stop.Link) }
+    ensures err { IfErr result IsUnbound }
     ensures quiet { IfErr result (λ _. O.contents output.new ≡ O.contents output.old) }
     ensures untold { IfErr result (λ _. E.contents errors.new ≡ E.contents errors.old) }
 {
-    let Ok(mut sockets) = sockets else {
-        return Err(Stop::Link);
+    let mut sockets = match sockets {
+        Ok(sockets) => sockets,
+        Err(error) => return Err(stop_of_bind(&error)),
     };
     tell_place(&sockets, errors);
     let mut clock = MachineClock::new(rt);
@@ -242,8 +254,8 @@ where
 /// Serves so many connections by the settings of the source, several at one time, and gives the exit status. It listens at
 /// the address, and tells on `errors` which one it is.
 ///
-/// The settings are read first, and `Link` says that nothing can listen at the address. Nothing is printed before. `why`
-/// has the reason of that, and of what ends the command later.
+/// The settings are read first, and `Link` says that nothing can listen at the address, or `NoMemory` that there is no
+/// memory for it. Nothing is printed before. `why` has the reason of that, and of what ends the command later.
 pub fn serve_many<R, O, E>(
     rt: &R,
     source: &Source,
