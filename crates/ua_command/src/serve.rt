@@ -4,17 +4,19 @@ ghost use Rattle.std.specs.Prelude.{◌≡◌, ◌<◌, true, Err, IsOk, IfOk, I
 ghost use Rattle.ua_command.specs.Serve.{status_behind, IsServeStatus, IsServedStatus, IsServeStop, IsServingStop, Serves};
 ghost use Rattle.ua_command.specs.Why.{IsKnown};
 
+mod hearing;
 pub mod many;
 mod streams;
 
 use crate::ending::Ending;
 use crate::run::told_and_noted;
+use crate::serve::hearing::{has_last_word, hear_out};
 use crate::serve::streams::{Accepted, Made, Streams};
 use crate::settings::settings_in;
 use crate::stop::{Stop, print};
 use crate::why::Why;
 use std::io::{Read, Write};
-use std::net::{Net, OpenListener, TcpListener};
+use std::net::{Net, OpenListener, OpenStream, TcpListener};
 use std::rt::{Clock, Files};
 use std::{fmt, io};
 use ua_conn::{End, ReverseFault};
@@ -58,14 +60,14 @@ fn served_so(id: u32, report: &Report) -> Served {
     }
 }
 
-/// Serves one connection over a stream, which is closed then; `reverse` says that this end opened it. Where there was no
-/// memory to begin it, it came to nothing.
-fn serve_stream<R: Clock + AllocGlobal, S: Read + Write + Drop>(
+/// Serves one connection over a stream; `reverse` says that this end opened it. Where there was no memory to begin it, it
+/// came to nothing.
+fn serve_over<R: Clock + AllocGlobal, S: Read + Write>(
     rt: &R,
     settings: &Settings,
     reverse: bool,
     id: u32,
-    stream: S,
+    stream: &mut S,
 ) -> Result<Served, Stop>
     requires { 0 < id }
     ensures stop { IfErr result (IsServingStop reverse settings.now) }
@@ -87,6 +89,27 @@ fn serve_stream<R: Clock + AllocGlobal, S: Read + Write + Drop>(
         }),
         Err(fault) => Err(Stop::Reverse(fault)),
     }
+}
+
+/// Serves one connection over a stream in this way. It is closed then, behind its last word once the other end was heard
+/// out.
+fn serve_stream<R: Clock + AllocGlobal, S: Read + Write + OpenStream + Drop>(
+    rt: &R,
+    settings: &Settings,
+    reverse: bool,
+    id: u32,
+    stream: S,
+) -> Result<Served, Stop>
+    requires { 0 < id }
+    ensures stop { IfErr result (IsServingStop reverse settings.now) }
+    ensures linked { IfErr result (λ stop. stop ≡ Stop.Link → ⊥) }
+{
+    let mut stream = stream;
+    let served = serve_over(rt, settings, reverse, id, &mut stream)?;
+    if has_last_word(served.end) {
+        hear_out(rt, &mut stream);
+    }
+    Ok(served)
 }
 
 /// Prints the line of a connection at once.
@@ -151,7 +174,7 @@ fn serve_next<R, S, O>(
 ) -> Result<u8, Stop>
 where
     R: Clock + AllocGlobal,
-    S: Read + Write + Drop,
+    S: Read + Write + OpenStream + Drop,
     O: Write,
     requires id { 0 < id }
     requires status { IsServeStatus status }
@@ -228,7 +251,8 @@ where
 
 /// Serves so many connections of a listener, one after the other, by these settings; their channels have the ids from 1
 /// on. Each one's line is printed as it ends: how it ended, how many bytes came, how many went out. After any end the
-/// next connection is served.
+/// next connection is served; where this end had the last word, once the other end closed the connection too, or was heard
+/// for a second or 65536 bytes more.
 ///
 /// The result is the exit status: 3 where a connection can't be accepted or a line can't be printed, which ends the
 /// call and is told on `errors`, with the reason in `why`; else 4 where a connection ended for want of memory, else 3
@@ -245,7 +269,7 @@ pub fn serve_on<R, L, O, E>(
 where
     R: Clock + AllocGlobal,
     L: OpenListener,
-    L::Stream: Read + Write,
+    L::Stream: Read + Write + OpenStream,
     O: Write,
     E: Write,
     ensures { IsServeStatus result }
@@ -319,7 +343,7 @@ fn serve_at<R, L, O, E>(
 where
     R: Clock + AllocGlobal,
     L: OpenListener + Drop,
-    L::Stream: Read + Write,
+    L::Stream: Read + Write + OpenStream,
     O: Write,
     E: Write,
     ensures bound { MatchResult listener (λ _. IsOk result) (λ _. result ≡ Err Stop.Link) }

@@ -9,6 +9,8 @@ mod asking;
 #[cfg(test)]
 mod checks;
 #[cfg(test)]
+mod last_words;
+#[cfg(test)]
 mod many_loopback;
 #[cfg(test)]
 mod moments;

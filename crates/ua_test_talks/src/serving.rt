@@ -3,7 +3,7 @@
 use std::io;
 use std::io::{Read, Write};
 use std::net::{
-    Ipv4Addr, OpenListener, Shutdown, SocketAddr, SocketAddrV4, TcpListener, TcpStream,
+    Ipv4Addr, OpenListener, OpenStream, Shutdown, SocketAddr, SocketAddrV4, TcpListener, TcpStream,
 };
 use std::time::Duration;
 use ua_command::{Why, serve_on, status_with};
@@ -150,6 +150,8 @@ impl Write for BrokenStream {
         Err(io::Error::from(io::ErrorKind::Other))
     }
 }
+
+impl OpenStream for BrokenStream {}
 
 /// A listener that gives such streams, or fails as well.
 #[derive(Clone, Copy)]

@@ -2,7 +2,7 @@
 
 use std::io;
 use std::io::{Read, Write};
-use std::net::{Ipv4Addr, OpenListener, SocketAddr, SocketAddrV4};
+use std::net::{Ipv4Addr, OpenListener, OpenStream, SocketAddr, SocketAddrV4};
 use ua_command::{Why, serve_on};
 use ua_disco::{DEFAULT, Settings};
 use ua_test_runs::pages::Page;
@@ -49,6 +49,8 @@ impl Write for SlowStream {
         Ok(())
     }
 }
+
+impl OpenStream for SlowStream {}
 
 /// A listener that gives such streams.
 #[derive(Clone, Copy)]

@@ -5,12 +5,12 @@ ghost use Rattle.ua_command.specs.Why.{IsKnown};
 
 use crate::why::Why;
 use std::io::{Read, Write};
-use std::net::{Net, OpenListener, TcpStream};
+use std::net::{Net, OpenListener, OpenStream, TcpStream};
 use ua_socket::Reason;
 
 /// What gives the streams of connections, one after the other.
 pub trait Streams {
-    type Stream: Read + Write + Drop;
+    type Stream: Read + Write + OpenStream + Drop;
 
     /// The stream of the next connection, or why there is none.
     fn next(&self) -> Result<Self::Stream, Why>
@@ -26,7 +26,7 @@ pub struct Accepted<'a, L> {
 impl<'a, L> Streams for Accepted<'a, L>
 where
     L: OpenListener,
-    L::Stream: Read + Write,
+    L::Stream: Read + Write + OpenStream,
 {
     type Stream = L::Stream;
 
