@@ -23,6 +23,8 @@ mod many_words;
 #[cfg(test)]
 mod memory;
 #[cfg(test)]
+mod open_files;
+#[cfg(test)]
 mod packets;
 #[cfg(test)]
 mod parts;

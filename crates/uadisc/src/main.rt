@@ -6,7 +6,7 @@ use std::process::ExitCode;
 use std::rt::Env;
 use std::{env, io};
 use ua_command::run::{run_and_say, told};
-use ua_command::{Stop, Why, say_why};
+use ua_command::{Stop, Why, say_limits, say_why};
 
 fn main(rt: HostRuntime) -> ExitCode {
     let status = match words(&rt) {
@@ -33,6 +33,10 @@ fn run_words(rt: &HostRuntime, words: &[String]) -> Result<u8, Stop> {
     for word in words {
         lent.push(word.as_str())?;
     }
+    let for_people = is_for_people(rt);
+    if for_people {
+        say_limits(rt, lent.as_slice(), &mut rt.stderr());
+    }
     let mut why = Why::Unknown;
     let status = run_and_say(
         rt,
@@ -42,7 +46,7 @@ fn run_words(rt: &HostRuntime, words: &[String]) -> Result<u8, Stop> {
         &mut rt.stderr(),
         &mut why,
     );
-    if is_for_people(rt) {
+    if for_people {
         say_why(rt, lent.as_slice(), &why, &mut rt.stderr());
     }
     Ok(status)
