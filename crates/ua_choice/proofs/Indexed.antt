@@ -6,7 +6,7 @@ use Rattle.std.specs.Str.{bytes_eq}
 use Rattle.std.proofs.lemmas.List.Folds.{list_any_more}
 use Rattle.ua_choice.specs.Choosing.{same_text, is_among}
 use Rattle.ua_choice.specs.Index.{is_indexed, IndexesOne}
-use Rattle.ua_choice.specs.declared.filter.Index.{Index}
+use Rattle.ua_choice.specs.declared.index.Index.{Index}
 
 or_false : (b : Bool) → b ≡ (b || false)
 or_false true = refl

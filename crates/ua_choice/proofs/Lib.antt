@@ -1,3 +1,4 @@
 pub mod Given
 pub mod Indexed
 pub mod Kept
+pub mod Ranked

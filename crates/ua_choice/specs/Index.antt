@@ -1,7 +1,7 @@
--- The texts of a filter, each once.
+-- Texts, each once.
 use Rattle.std.specs.Prelude.{◌≡◌, ◌||◌, ℕ, Bool, List, Option, Some, None}
 use Rattle.std.specs.BTreeSet.{contains_text}
-use Rattle.ua_choice.specs.declared.filter.Index.{Index}
+use Rattle.ua_choice.specs.declared.index.Index.{Index}
 use Rattle.ua_choice.specs.Choosing.{same_text}
 
 -- whether the index has the text

@@ -1,68 +1,14 @@
 //! What a filter says of many texts that differ.
 
-ghost use Rattle.std.specs.Prelude.{◌≡◌, ℕ, List, Option, IfOk, IfSome, OnOk};
-ghost use Rattle.ua_choice.specs.Choosing.{is_among, is_asked};
-ghost use Rattle.ua_choice.specs.Index.{is_indexed, IndexesOne};
+ghost use Rattle.std.specs.Prelude.{◌≡◌, ℕ, List, Option, IfSome};
+ghost use Rattle.ua_choice.specs.Choosing.{is_asked};
+ghost use Rattle.ua_choice.specs.Index.{is_indexed};
 
 use crate::choosing::asks_for;
+use crate::index::{Index, WALKED};
 use std::alloc::Global;
-use std::collections::BTreeSet;
 use std::marker::Model;
-use ua_value::{Array, NoMemory, UaString};
-
-/// How long a filter may be that is walked through for each text.
-const WALKED: usize = 16;
-
-/// The texts of a filter, each once, by which a text is found with no walk over all of them.
-#[derive(Drop)]
-pub(crate) struct Index {
-    has_null: bool,
-    texts: BTreeSet<String>,
-}
-
-impl Index {
-    /// That of these texts.
-    ///
-    /// # Errors
-    ///
-    /// `NoMemory` where the room for their copies is refused.
-    fn of(alloc: Global, texts: &[UaString]) -> Result<Index, NoMemory>
-        ensures { IfOk result (λ i. (text : Option (List ℕ)) → is_indexed text i ≡ is_among text texts.now) }
-    {
-        let mut index = Index {
-            has_null: false,
-            texts: BTreeSet::new(alloc),
-        };
-        for text in texts {
-            index.add(alloc, text)?;
-        }
-        Ok(index)
-    }
-
-    /// Adds a text.
-    fn add(&mut self, alloc: Global, text: &UaString) -> Result<(), NoMemory>
-        ensures { OnOk result (IndexesOne text.now self.old self.new) }
-    {
-        match text.get() {
-            None => self.has_null = true,
-            Some(text) => {
-                let text = String::from_str(alloc, text)?;
-                self.texts.insert(text)?;
-            }
-        }
-        Ok(())
-    }
-
-    /// Whether it has the text.
-    fn has(&self, text: &UaString) -> bool
-        ensures { result ≡ is_indexed text.now self.now }
-    {
-        match text.get() {
-            None => self.has_null,
-            Some(text) => self.texts.contains(text),
-        }
-    }
-}
+use ua_value::{Array, UaString};
 
 /// A filter that is asked of many texts. A long one has an index, where there is memory for it, so that a text costs no
 /// walk over the filter.

@@ -4,11 +4,14 @@
 
 mod choosing;
 mod filter;
+mod index;
+mod locales;
 mod names;
 mod places;
 mod verdicts;
 
 pub use choosing::asks_for;
 pub use filter::Filter;
+pub use locales::{KnownLocales, Locales};
 pub use names::Names;
 pub use verdicts::Verdicts;

@@ -1,13 +1,13 @@
-//! Where the first name in each locale stands (OPC 10000-4, 5.4).
+//! Where the first of each locale stands (OPC 10000-4, 5.4).
 
-ghost use Rattle.std.specs.Prelude.{◌≡◌, IfOk, OnOk};
+ghost use Rattle.std.specs.Prelude.{◌≡◌, ℕ, List, Option, None, IfOk, OnOk};
 ghost use Rattle.ua_choice.specs.Places.{place_in, ArePlacesOf, KeepsOne};
 
 use std::alloc::Global;
 use std::collections::BTreeMap;
 use ua_value::{LocalizedText, NoMemory, UaString};
 
-/// Of each locale the place of the first name in it, by which a name is found with no walk over all of them.
+/// Of each locale a place, by which the first name in it is found with no walk over all of them.
 #[derive(Drop)]
 pub(crate) struct Places {
     of_null: Option<usize>,
@@ -15,6 +15,16 @@ pub(crate) struct Places {
 }
 
 impl Places {
+    /// None.
+    pub(crate) fn new(alloc: Global) -> Places
+        ensures { (locale : Option (List ℕ)) → place_in locale result ≡ None }
+    {
+        Places {
+            of_null: None,
+            of_texts: BTreeMap::new(alloc),
+        }
+    }
+
     /// Those of these names.
     ///
     /// # Errors
@@ -23,10 +33,7 @@ impl Places {
     pub(crate) fn of(alloc: Global, names: &[LocalizedText]) -> Result<Places, NoMemory>
         ensures { IfOk result (ArePlacesOf names.now) }
     {
-        let mut places = Places {
-            of_null: None,
-            of_texts: BTreeMap::new(alloc),
-        };
+        let mut places = Places::new(alloc);
         // backward, so that the first name of a locale stays
         for place in (0..names.len()).rev() {
             places.keep(alloc, &names[place].locale, place)?;
@@ -35,7 +42,12 @@ impl Places {
     }
 
     /// Keeps the place for the locale, instead of one that was kept for it.
-    fn keep(&mut self, alloc: Global, locale: &UaString, place: usize) -> Result<(), NoMemory>
+    pub(crate) fn keep(
+        &mut self,
+        alloc: Global,
+        locale: &UaString,
+        place: usize,
+    ) -> Result<(), NoMemory>
         ensures { OnOk result (KeepsOne locale.now place self.old self.new) }
     {
         match locale.get() {

@@ -5,17 +5,18 @@ ghost use Rattle.ua_disco.specs.Bounds.{IsConfiguration};
 ghost use Rattle.ua_disco.specs.Answers.{answer_of, servers_among, servers_found, endpoints_found, find_servers_answer, get_endpoints_answer, unsupported};
 
 use crate::arrays::array_of;
+use crate::found::locales_for;
 use crate::settings::Settings;
 use crate::spelled::SpelledApplication;
 use std::alloc::Global;
-use ua_choice::{Filter, Verdicts};
+use ua_choice::{Filter, Locales, Verdicts};
 use ua_service::{
     ApplicationDescription, EndpointDescription, FindServersRequest, FindServersResponse,
     GetEndpointsRequest, GetEndpointsResponse, OtherRequest, Request, Response, ResponseHeader,
     ServiceFault, response_header,
 };
+use ua_value::NoMemory;
 use ua_value::plumbing::let_go;
-use ua_value::{Array, NoMemory, UaString};
 
 /// The service is not one that the server offers (OPC 10000-4, 7.39).
 pub(crate) const BAD_SERVICE_UNSUPPORTED: u32 = 0x800B_0000;
@@ -25,7 +26,7 @@ fn described(
     alloc: Global,
     listed: &[SpelledApplication],
     filter: &Filter<'_>,
-    locales: &Array<UaString>,
+    locales: &Locales<'_>,
 ) -> Result<Vec<ApplicationDescription>, NoMemory>
     ensures { IfOk result (λ v. v.items ≡ servers_among locales.now filter.now listed.now) }
 {
@@ -33,7 +34,7 @@ fn described(
     for spelled in listed {
         let application = spelled.get();
         if filter.asks_for(&application.uri) {
-            let name = application.names.in_language(locales);
+            let name = application.names.for_reader(locales);
             found.push(application.describe(name)?)?;
         }
     }
@@ -51,8 +52,10 @@ fn servers(
     ensures within { IsConfiguration settings.now }
 {
     let filter = Filter::new(alloc, &request.server_uris);
-    let found = described(alloc, settings.applications(), &filter, &request.locale_ids);
-    let_go(filter);
+    let listed = settings.applications();
+    let locales = locales_for(alloc, listed, &filter, &request.locale_ids);
+    let found = described(alloc, listed, &filter, &locales);
+    let_go((filter, locales));
     found
 }
 

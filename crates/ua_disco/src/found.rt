@@ -10,17 +10,57 @@ ghost use Rattle.ua_disco.specs.Bounds.{IsApplication};
 
 use crate::settings::Settings;
 use crate::spelled::{NamedApplication, SpelledApplication};
-use ua_choice::{Filter, Verdicts};
+use std::alloc::Global;
+use ua_choice::{Filter, KnownLocales, Locales, Verdicts};
 use ua_service::GetEndpointsRequest;
 use ua_value::plumbing::Parts;
 use ua_value::{Array, NoMemory, Sink, UaString};
+
+/// The locales of the names of those applications that a filter asks for.
+///
+/// # Errors
+///
+/// `NoMemory` where the room for their copies is refused.
+fn known_locales(
+    alloc: Global,
+    listed: &[SpelledApplication],
+    filter: &Filter<'_>,
+) -> Result<KnownLocales, NoMemory> {
+    let mut known = KnownLocales::new(alloc);
+    for application in listed {
+        let plain = application.get();
+        if filter.asks_for(&plain.uri) {
+            known.add(alloc, &plain.names)?;
+        }
+    }
+    Ok(known)
+}
+
+/// The locales that a reader wants of the applications that a filter asks for. Over sixteen of them are looked up once
+/// for several applications, where there is memory for it.
+pub(crate) fn locales_for<'a>(
+    alloc: Global,
+    listed: &[SpelledApplication],
+    filter: &Filter<'_>,
+    wanted: &'a Array<UaString>,
+) -> Locales<'a>
+    ensures { result ≡ wanted.now }
+{
+    if listed.len() < 2 || !Locales::are_many(wanted) {
+        return Locales::new(wanted);
+    }
+    match known_locales(alloc, listed, filter) {
+        Ok(known) => Locales::looked_up(alloc, wanted, known),
+        Err(_) => Locales::new(wanted),
+    }
+}
 
 /// The applications that a filter asks for, in their order, each for a reader of the locales.
 #[derive(Clone, Copy)]
 pub(crate) struct FoundServers<'a> {
     pub(crate) listed: &'a [SpelledApplication],
     pub(crate) filter: &'a Filter<'a>,
-    pub(crate) locales: &'a Array<UaString>,
+    pub(crate) locales: &'a Locales<'a>,
 }
 
 impl<'a> FoundServers<'a> {
@@ -52,7 +92,7 @@ impl<'a> FoundServers<'a> {
         for application in listed {
             let plain = application.get();
             if filter.asks_for(&plain.uri) {
-                let name = plain.names.in_language(locales);
+                let name = plain.names.for_reader(locales);
                 total += NamedApplication { application, name }.len();
             }
         }
@@ -68,7 +108,7 @@ impl<'a> Parts for FoundServers<'a> {
         for application in listed {
             let plain = application.get();
             if filter.asks_for(&plain.uri) {
-                let name = plain.names.in_language(locales);
+                let name = plain.names.for_reader(locales);
                 NamedApplication { application, name }.emit_parts(out)?;
             }
         }

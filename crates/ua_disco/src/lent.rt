@@ -10,7 +10,7 @@ ghost use Rattle.ua_service.specs.declared.response.Response.TheVariants as resp
 ghost use Rattle.ua_disco.specs.Answers.{answer_of, find_servers_answer, get_endpoints_answer, unsupported};
 
 use crate::answering::BAD_SERVICE_UNSUPPORTED;
-use crate::found::{FoundEndpoints, FoundServers, endpoint_count, endpoints_len};
+use crate::found::{FoundEndpoints, FoundServers, endpoint_count, endpoints_len, locales_for};
 use crate::settings::Settings;
 use std::marker::Model;
 use ua_choice::Filter;
@@ -109,11 +109,13 @@ fn servers_body_len(settings: &Settings, request: &FindServersRequest, now: i64)
     ensures { result ≡ length (canon_response (responses.FindServers (find_servers_answer settings.now request.now now))) }
 {
     let head = Head::good(FIND_SERVERS_RESPONSE, now, &request.header);
-    let filter = Filter::new(settings.alloc(), &request.server_uris);
+    let (alloc, listed) = (settings.alloc(), settings.applications());
+    let filter = Filter::new(alloc, &request.server_uris);
+    let locales = locales_for(alloc, listed, &filter, &request.locale_ids);
     let found = FoundServers {
-        listed: settings.applications(),
+        listed,
         filter: &filter,
-        locales: &request.locale_ids,
+        locales: &locales,
     };
     head.len() + 4 + found.len()
 }
@@ -130,11 +132,13 @@ fn put_servers_body<S: Sink>(
     ensures err { OnErr result (AppendsPart (S.contents sink.old) (S.contents sink.new) (canon_response (responses.FindServers (find_servers_answer settings.now request.now now)))) }
 {
     let head = Head::good(FIND_SERVERS_RESPONSE, now, &request.header);
-    let filter = Filter::new(settings.alloc(), &request.server_uris);
+    let (alloc, listed) = (settings.alloc(), settings.applications());
+    let filter = Filter::new(alloc, &request.server_uris);
+    let locales = locales_for(alloc, listed, &filter, &request.locale_ids);
     let found = FoundServers {
-        listed: settings.applications(),
+        listed,
         filter: &filter,
-        locales: &request.locale_ids,
+        locales: &locales,
     };
     let count = found.count() as u32;
     head.put_before((&count, found), sink)
@@ -199,8 +203,9 @@ fn put_fault_body<S: Sink>(request: &OtherRequest, now: i64, sink: &mut S) -> Re
 
 /// What a server with these settings says to a request at the moment `now`, in ticks of 100 ns since 1601-01-01 UTC: the
 /// body of the response that `answer` makes, lent (OPC 10000-4, 5.5). The settings and the request are read when its length
-/// or its bytes are asked for, and nothing of them is copied but into the sink, and of a request with over sixteen
-/// ServerUris these, while they are looked up; where the room for that is refused, that takes longer.
+/// or its bytes are asked for, and nothing of them is copied but into the sink, and while they are looked up, of a request
+/// with over sixteen ServerUris these, and for one with over sixteen LocaleIds the locales of the names of several
+/// applications; where the room for that is refused, that takes longer.
 pub fn lent_answer<'a>(settings: &'a Settings, request: &'a Request, now: i64) -> LentAnswer<'a>
     ensures { result ≡ canon_response (answer_of settings.now request.now now) }
 {

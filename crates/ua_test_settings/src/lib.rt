@@ -15,6 +15,8 @@ mod choices;
 #[cfg(test)]
 mod keys;
 #[cfg(test)]
+mod locales;
+#[cfg(test)]
 mod made_settings;
 #[cfg(test)]
 mod memory;

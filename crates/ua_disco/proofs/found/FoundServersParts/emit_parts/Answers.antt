@@ -23,8 +23,8 @@ returns-in_err-emit_parts-clause-err g c =
     let between = g.S.Sink.contents c.loop-application.out in
     let new = g.S.Sink.contents c.emit_parts.new.out in
     let is : asked item ≡ true = ap asked (sym c.get-plain.ensures) ∙ sym c.asks_for.ensures ∙ c.if-asks_for.true in
-    let named : described item c.in_language-name.result.now ≡ application_for locales item =
-    ap (described item) (c.in_language-name.ensures ∙ ap (λ (a : Application). name_for locales a.names) c.get-plain.ensures) in
+    let named : described item c.for_reader-name.result.now ≡ application_for locales item =
+    ap (described item) (c.for_reader-name.ensures ∙ ap (λ (a : Application). name_for locales a.names) c.get-plain.ensures) in
     let one = subst (λ (d : ApplicationDescription). AppendsPart between new (canon d)) named c.in_err-emit_parts.ensures.err in
     rw failed.1 (part_of_found canon (application_for locales) asked listed c.loop-application.application-index item old between new
     c.loop-application-test.true c.application-item.is is c.loop-application.invariant one)

@@ -1,9 +1,9 @@
 use Rattle.std.proofs.Common.{◌≡◌, subst, Some, true, string_bytes, refl, rules}
 use Rattle.std.proofs.lemmas.Map.Text.{btree_set_updates_text}
-use Rattle.ua_choice.specs.declared.filter.Index.{Index}
+use Rattle.ua_choice.specs.declared.index.Index.{Index}
 use Rattle.ua_choice.specs.Index.{IndexesOne}
 use Rattle.ua_choice.proofs.Indexed.{has_text}
-use Rattle.ua_choice.proofs.filter.Index.add.Goals as goal
+use Rattle.ua_choice.proofs.index.Index.add.Goals as goal
 
 pub returns-in_ok-insert-in-Some : goal.returns-in_ok-insert-in-Some
 returns-in_ok-insert-in-Some c =

@@ -1,7 +1,7 @@
 use Rattle.std.proofs.Common.{◌≡◌, Option, List, ℕ, take}
 use Rattle.ua_choice.specs.Choosing.{is_among}
 use Rattle.ua_choice.specs.Index.{is_indexed}
-use Rattle.ua_choice.proofs.filter.Index.of.Given as goal
+use Rattle.ua_choice.proofs.index.Index.of.Given as goal
 
 -- the texts that were gone through are there
 abbrev pub invariant-loop-text : goal.invariant-loop-text
