@@ -1,44 +1,42 @@
 -- One of several connections, turn after turn.
-use Rattle.std.proofs.Common.{arith, ◌≡◌, ℕ, zero, suc, min, ◌+◌, ◌-◌, ◌<◌, ◌≤◌, ℤ, Bool, false, List, [], ◌∷◌, ◌++◌, length, take, drop, Option, Some, None, Ok, refl, sym, ap, subst, ◌∙◌, length-append, append_assoc}
-use Rattle.std.proofs.Math.Nat.{min-eq_left}
+use Rattle.std.proofs.Common.{arith, ◌≡◌, ℕ, zero, suc, ◌+◌, ◌-◌, ◌<◌, ◌≤◌, ◌==◌, ◌&&◌, nat_lt, nat_le, ℤ, pos, Bool, true, false, List, [], ◌∷◌, ◌++◌, length, take, drop, Option, Some, None, is_none, refl, sym, ap, subst, ◌∙◌, ◌⊎◌, inl, inr, length-append, append_assoc}
+use Rattle.std.proofs.lemmas.Bool.{and_true}
+use Rattle.std.proofs.lemmas.Bool.Decides.{nat_tests}
 use Rattle.std.proofs.Math.Seq.{take-append_seam}
-use Rattle.std.proofs.lemmas.List.{append-nil, take-append-drop, length-take-le, drop-append-le}
+use Rattle.std.proofs.lemmas.List.{append-nil, take-append-drop, length-take-le}
 use Rattle.std.specs.Io.KnownBytes.{Appends, Consumes, Keeps, IsAtEnd}
 use Rattle.std.proofs.KnownBytes.{Appends-nil, Appends-trans, Appends-kept, Consumes-nil, Consumes-trans, Consumes-kept, Keeps-refl}
 use Rattle.ua_frame.specs.Streams.{Piece, timed}
 use Rattle.ua_conn.specs.server.Site.{Site}
 use Rattle.ua_conn.specs.server.Replies.{reply_bytes, end_of, ended}
 use Rattle.ua_conn.specs.server.Held.{held, stop, GoesOn}
-use Rattle.ua_service.specs.declared.request.Request.{Request}
-use Rattle.ua_conn.specs.server.Feeding.{Shown as Server, Feeds}
+use Rattle.ua_conn.specs.server.Feeding.{Shown as Server}
 use Rattle.ua_conn.specs.declared.outcome.End.{End}
 use Rattle.ua_conn.specs.declared.outcome.End.TheVariants.{Closed, InputEnded, Truncated, Refused, LinkFailed, TurnsSpent, NoMemory}
 use Rattle.ua_conn.proofs.ServerEnd.RecordLemmas.{by_record}
-use Rattle.ua_link.specs.Reads.{Cut, piece_at, total, pieces_by, NoneEmpty}
-use Rattle.ua_link.specs.Turns.{Seen, more, ending_at, ended_with}
-use Rattle.ua_link.specs.Reports.{Tells, Served, faults_by}
-use Rattle.ua_link.specs.ReadyLink.{ReadsNow}
-use Rattle.ua_link.specs.declared.link.LinkFault.{LinkFault}
-use Rattle.ua_link.specs.Connections.{Shown, Takes, TakesAll, Going, Leaving, Stage, Stands, Standing, Dropped, Leaves, Judges, ending_with}
+use Rattle.ua_conn.proofs.ServerEnd.StopLemmas.{stays}
+use Rattle.ua_link.specs.Reads.{Cut, piece_at, total, pieces_by, NoneEmpty, LastEmpty}
+use Rattle.ua_link.specs.Turns.{Seen, more}
+use Rattle.ua_link.specs.Reports.{Tells, Served, faults_by, cuts_with}
+use Rattle.ua_link.specs.Connections.{Shown, SameStream, behind, Takes, TakesAll, Hears, Reads, Going, Leaving, Stage, Stands, Standing, Dropped, Leaves, Judges, ending_with, ending_at_read, is_read}
 use Rattle.ua_link.specs.declared.connection.Over.{Over}
 use Rattle.ua_link.specs.declared.connection.Over.TheVariants.{Ended, TimedOut}
 use Rattle.ua_link.proofs.ReadLemmas.{total_more, pieces_more, none_empty_more}
-use Rattle.ua_link.proofs.EndLemmas.{nothing_yet}
-use Rattle.ua_link.proofs.TurnLemmas.{ending_so, none_read}
-use Rattle.ua_link.proofs.ReportLemmas.{nothing_said, own, own_faults, ending_is, tells_own, last_empty, goes_on_ending}
+use Rattle.ua_link.proofs.EndLemmas.{nothing_yet, input_ends}
+use Rattle.ua_link.proofs.StreamLemmas.{same, other, both, more_same, behind_same, behind_parted, behind_bytes, no_more}
+use Rattle.ua_link.proofs.ReportLemmas.{nothing_said}
 
 pub fresh : (site : Site) (turns : ℕ) (s : Seen) → 0 < turns →
-    Stands site turns (record { site = site; held = held site []; failed = false }) [] turns None [] 0 s s
+    Stands site turns (record { site = site; held = held site []; failed = false }) [] (pos 0) [] turns None [] 0 s s
 fresh site turns s some = record {
   read = [];
   input = Consumes-nil s.input;
   lengths = refl;
   out = [];
-  replied = nothing_said false site;
   sent = Appends-nil s.output;
   written = refl;
   counted = refl;
-  stage = record { goes_on = nothing_yet site; shows = refl; filled = tt; some = some; spends = omega arith };
+  stage = record { heard = []; stream = same []; replied = nothing_said false site; goes_on = nothing_yet site; shows = refl; filled = tt; some = λ none. some; spends = omega arith };
 }
 
 -- ---- what is written
@@ -53,10 +51,32 @@ tells_still (Refused status) e n turns cuts before after same t = t
 tells_still InputEnded e n turns cuts before after same t = (t.0, t.1, t.2, subst IsAtEnd (sym same) t.3)
 tells_still Truncated e n turns cuts before after same t = (t.0, t.1, t.2, subst IsAtEnd (sym same) t.3)
 
-stage_still : (site : Site) (turns : ℕ) (server : Server) (left : ℕ) (cuts : List Cut) (ps : List Piece) (before after : Seen) (ending : Option End) → after.input ≡ before.input →
-    Stage site turns server left cuts ps before ending → Stage site turns server left cuts ps after ending
-stage_still site turns server left cuts ps before after None same s = s
-stage_still site turns server left cuts ps before after (Some e) same s = record {
+leaving_still : (site : Site) (turns : ℕ) (owed : List ℕ) (e : End) (cuts : List Cut) (ps : List Piece) (out : List ℕ) (before after : Seen) → after.input ≡ before.input →
+    Leaving site turns owed e cuts ps out before → Leaving site turns owed e cuts ps out after
+leaving_still site turns owed e cuts ps out before after same s = record {
+  replied = s.replied;
+  tells = λ n. tells_still e (end_of site (timed ps)) n turns cuts before after same (s.tells n);
+  unfailed = s.unfailed;
+}
+
+-- some of what was owed went out
+moved_out : (out owed : List ℕ) (w : ℕ) → out ++ owed ≡ (out ++ take w owed) ++ drop w owed
+moved_out out owed w = ap (λ o. out ++ o) (sym (take-append-drop w owed)) ∙ sym (append_assoc out (take w owed) (drop w owed))
+
+stage_spoken : (site : Site) (turns : ℕ) (server : Server) (waiting : List ℕ) (came : ℤ) (owed : List ℕ) (left : ℕ) (cuts : List Cut) (ps : List Piece) (out : List ℕ) (w : ℕ) (before after : Seen) (ending : Option End) →
+    after.input ≡ before.input → Stage site turns server waiting came owed left cuts ps out before ending → Stage site turns server waiting came (drop w owed) left cuts ps (out ++ take w owed) after ending
+stage_spoken site turns server waiting came owed left cuts ps out w before after None same s = record {
+  heard = s.heard;
+  stream = s.stream;
+  replied = s.replied ∙ moved_out out owed w;
+  goes_on = s.goes_on;
+  shows = s.shows;
+  filled = s.filled;
+  some = s.some;
+  spends = s.spends;
+}
+stage_spoken site turns server waiting came owed left cuts ps out w before after (Some e) same s = record {
+  replied = s.replied ∙ moved_out out owed w;
   tells = λ n. tells_still e (end_of site (timed ps)) n turns cuts before after same (s.tells n);
   unfailed = s.unfailed;
 }
@@ -68,11 +88,10 @@ spoken site turns c cuts n w before mid after s within sent same faults = record
   input = subst (λ i. Consumes before.input i s.read) (sym same) s.input;
   lengths = s.lengths;
   out = s.out ++ take w c.owed;
-  replied = s.replied ∙ ap (λ o. s.out ++ o) (sym (take-append-drop w c.owed)) ∙ sym (append_assoc s.out (take w c.owed) (drop w c.owed));
   sent = Appends-trans before.output mid.output after.output s.out (take w c.owed) s.sent sent;
   written = omega (arith, s.written, length-append s.out (take w c.owed), length-take-le w c.owed within);
   counted = faults ∙ s.counted;
-  stage = stage_still site turns c.server c.left cuts (pieces_by cuts s.read) mid after c.ending same s.stage;
+  stage = stage_spoken site turns c.server c.waiting c.came c.owed c.left cuts (pieces_by cuts s.read) s.out w mid after c.ending same s.stage;
 }
 
 -- ---- a connection that is over
@@ -86,19 +105,40 @@ sent_so before after all out owed n is e h = subst (Appends before after) (sym (
 within_so : (all out owed : List ℕ) (n : ℕ) → all ≡ out ++ owed → n ≡ length out → n ≤ length all
 within_so all out owed n is e = omega (arith, e, ap length is, length-append out owed)
 
+-- What is out begins the reply to all that was read, whether the server heard it or not.
+begun_so : (site : Site) (turns : ℕ) (server : Server) (waiting : List ℕ) (came : ℤ) (owed : List ℕ) (left : ℕ) (cuts : List Cut) (ps : List Piece) (out : List ℕ) (after : Seen) (ending : Option End) →
+    Stage site turns server waiting came owed left cuts ps out after ending → (behind_it : List ℕ) × (reply_bytes false site (timed ps) ≡ out ++ behind_it)
+begun_so site turns server waiting came owed left cuts ps out after (Some e) s = (owed, s.replied)
+begun_so site turns server waiting came owed left cuts ps out after None s =
+    let law = by_record site (held site s.heard) (piece_at came waiting) in
+    let gained = law.1 s.heard s.goes_on refl in
+    (owed ++ law.0.bytes, ap (λ t. reply_bytes false site t) (sym s.stream.bytes ∙ behind_bytes s.heard came waiting) ∙ gained.replied false ∙ ap (λ r. r ++ law.0.bytes) s.replied ∙ append_assoc out owed law.0.bytes)
+
+pub dropped : (site : Site) (turns : ℕ) (c : Shown) (cuts : List Cut) (n : ℕ) (before after : Seen) → Standing site turns c cuts n before after → Dropped site cuts n before after
+dropped site turns c cuts n before after s =
+    let b = begun_so site turns c.server c.waiting c.came c.owed c.left cuts (pieces_by cuts s.read) s.out after c.ending s.stage in
+    record {
+      read = s.read;
+      input = s.input;
+      lengths = s.lengths;
+      sent = sent_so before.output after.output _ s.out b.0 n b.1 s.written s.sent;
+      within = within_so _ s.out b.0 n b.1 s.written;
+      counted = s.counted;
+    }
+
 ended_so : (site : Site) (turns : ℕ) (c : Shown) (cuts : List Cut) (n : ℕ) (before after : Seen) (e : End) → Standing site turns c cuts n before after → c.owed ≡ [] → c.ending ≡ Some e →
     Served false site turns before after e cuts n
 ended_so site turns c cuts n before after e s none is =
     let ps = pieces_by cuts s.read in
     let all = reply_bytes false site (timed ps) in
-    let leaving : Leaving site turns e cuts ps after = subst (Stage site turns c.server c.left cuts ps after) is s.stage in
-    let whole : n ≡ length all = omega (arith, s.written, ap length s.replied, length-append s.out c.owed, ap length none) in
+    let leaving : Leaving site turns c.owed e cuts ps s.out after = subst (Stage site turns c.server c.waiting c.came c.owed c.left cuts ps s.out after) is s.stage in
+    let whole : n ≡ length all = omega (arith, s.written, ap length leaving.replied, length-append s.out c.owed, ap length none) in
     record {
       read = s.read;
       input = s.input;
       lengths = s.lengths;
-      sent = sent_so before.output after.output all s.out c.owed n s.replied s.written s.sent;
-      within = within_so all s.out c.owed n s.replied s.written;
+      sent = sent_so before.output after.output all s.out c.owed n leaving.replied s.written s.sent;
+      within = within_so all s.out c.owed n leaving.replied s.written;
       tells = subst (λ k. Tells e (end_of site (timed ps)) k (length all) turns cuts after) (sym whole) (leaving.tells (length all));
       counted = s.counted ∙ leaving.unfailed before.faults;
     }
@@ -107,27 +147,28 @@ pub leaves : (site : Site) (turns : ℕ) (c : Shown) (active : ℕ) (cuts : List
     Standing site turns c cuts n before after → Judges c moved patience over → Leaves site turns (record c { active = active }) cuts n before after over
 leaves site turns c active cuts n before after moved patience None s j = s
 leaves site turns c active cuts n before after moved patience (Some (Ended e)) s j = ended_so site turns c cuts n before after e s j.0 j.1
-leaves site turns c active cuts n before after moved patience (Some TimedOut) s j = record {
-  read = s.read;
-  input = s.input;
-  lengths = s.lengths;
-  sent = sent_so before.output after.output _ s.out c.owed n s.replied s.written s.sent;
-  within = within_so _ s.out c.owed n s.replied s.written;
-  counted = s.counted;
-}
+leaves site turns c active cuts n before after moved patience (Some TimedOut) s j = dropped site turns c cuts n before after s
 
 -- A call of the link failed.
 pub broke : (site : Site) (turns : ℕ) (c : Shown) (cuts : List Cut) (n : ℕ) (before mid after : Seen) → Standing site turns c cuts n before mid → Keeps mid.input after.input → Keeps mid.output after.output →
     after.faults ≡ mid.faults + 1 → Served false site turns before after LinkFailed cuts n
-broke site turns c cuts n before mid after s input output faults = record {
-  read = s.read;
-  input = Consumes-kept before.input mid.input after.input s.read s.input input;
-  lengths = s.lengths;
-  sent = sent_so before.output after.output _ s.out c.owed n s.replied s.written (Appends-kept before.output mid.output after.output s.out s.sent output);
-  within = within_so _ s.out c.owed n s.replied s.written;
-  tells = tt;
-  counted = faults ∙ ap (λ k. k + 1) s.counted;
-}
+broke site turns c cuts n before mid after s input output faults =
+    let d = dropped site turns c cuts n before mid s in
+    record {
+      read = d.read;
+      input = Consumes-kept before.input mid.input after.input d.read d.input input;
+      lengths = d.lengths;
+      sent = Appends-kept before.output mid.output after.output _ d.sent output;
+      within = d.within;
+      tells = tt;
+      counted = faults ∙ ap (λ k. k + 1) d.counted;
+    }
+
+-- A growth was refused.
+pub starved : (site : Site) (turns : ℕ) (c : Shown) (cuts : List Cut) (n : ℕ) (before after : Seen) → Standing site turns c cuts n before after → Served false site turns before after NoMemory cuts n
+starved site turns c cuts n before after s =
+    let d = dropped site turns c cuts n before after s in
+    record { read = d.read; input = d.input; lengths = d.lengths; sent = d.sent; within = d.within; tells = tt; counted = d.counted }
 
 -- a turn that wrote nothing and ended so
 pub ended_with_none : (site : Site) (turns : ℕ) (new : Shown) (cuts : List Cut) (n w : ℕ) (before after : Seen) (over : Option Over) (e : End) → Served false site turns before after e cuts n → over ≡ Some (Ended e) → w ≡ 0 →
@@ -147,145 +188,194 @@ same_kept a b e = subst (Keeps a) (sym e) (Keeps-refl a)
 
 -- ---- what is read
 
-stage_read : (site : Site) (turns : ℕ) (server : Server) (left : ℕ) (cuts : List Cut) (ps : List Piece) (before after : Seen) (ending : Option End) → ((e : End) → ending ≡ Some e → after.input ≡ before.input) →
-    Stage site turns server left cuts ps before ending → Stage site turns server left cuts ps after ending
-stage_read site turns server left cuts ps before after None same s = s
-stage_read site turns server left cuts ps before after (Some e) same s = stage_still site turns server left cuts ps before after (Some e) (same e refl) s
+-- how a connection ends whose input does
+tells_input : (rest : List ℕ) (E : End) (n turns : ℕ) (cuts : List Cut) (after : Seen) → ended None rest ≡ E → LastEmpty cuts → IsAtEnd after.input → Tells (ended None rest) E n n turns cuts after
+tells_input [] E n turns cuts after is last at_end = (refl, sym is, last, at_end)
+tells_input (b ∷ rest) E n turns cuts after is last at_end = (refl, sym is, last, at_end)
 
--- Nothing was there, or nothing was to be read.
-pub unread : (site : Site) (turns : ℕ) (c : Shown) (cuts : List Cut) (n : ℕ) (before mid after : Seen) → Standing site turns c cuts n before mid → Keeps mid.input after.input →
-    ((e : End) → c.ending ≡ Some e → after.input ≡ mid.input) → after.output ≡ mid.output → after.faults ≡ mid.faults → Standing site turns c cuts n before after
-unread site turns c cuts n before mid after s input same output faults = record {
-  read = s.read;
-  input = Consumes-kept before.input mid.input after.input s.read s.input input;
-  lengths = s.lengths;
-  out = s.out;
-  replied = s.replied;
-  sent = subst (λ o. Appends before.output o s.out) (sym output) s.sent;
-  written = s.written;
-  counted = faults ∙ s.counted;
-  stage = stage_read site turns c.server c.left cuts (pieces_by cuts s.read) mid after c.ending same s.stage;
-}
+input_faults : (rest : List ℕ) (n : ℕ) → n ≡ faults_by (ended None rest) n
+input_faults [] n = refl
+input_faults (b ∷ rest) n = refl
 
--- an end that the bytes of a read brought
-left_by : (site : Site) (turns : ℕ) (cuts : List Cut) (now : ℤ) (bytes : List ℕ) (qs : List Piece) (after : Seen) (e : End) → ending_at bytes (end_of site (timed qs)) ≡ Some e → NoneEmpty cuts →
-    (bytes ≡ [] → IsAtEnd after.input) → Leaving site turns e (cuts ++ (now, length bytes) ∷ []) qs after
-left_by site turns cuts now bytes qs after e h filled at_end =
-    let E = end_of site (timed qs) in
-    let is = ending_is bytes E e h in
-    record {
-      tells = λ n. subst (λ end. Tells end E n n turns (cuts ++ (now, length bytes) ∷ []) after) (sym is)
-          (tells_own bytes n n turns (cuts ++ (now, length bytes) ∷ []) after (own site qs) (h ∙ ap Some is) refl (λ none. (last_empty cuts now bytes filled none, at_end none)));
-      unfailed = λ n. subst (λ end. n ≡ faults_by end n) (sym is) (own_faults n (own site qs));
-    }
+no_bytes : (b : List ℕ) → length b ≡ 0 → b ≡ []
+no_bytes [] e = refl
+no_bytes (x ∷ b) e = absurd (omega (arith, e))
 
 -- where the reads stand behind one more
-stage_with : (site : Site) (turns : ℕ) (c : Shown) (server : Server) (left l : ℕ) (cuts : List Cut) (now : ℤ) (bytes : List ℕ) (ps qs : List Piece) (after : Seen) (o : Option End) → Going site turns c.server c.left cuts ps →
-    l ≡ c.left - 1 → left ≡ c.left - 1 → ending_at bytes (end_of site (timed qs)) ≡ o → (GoesOn site qs → server ≡ record { site = site; held = held site qs; failed = false }) → (bytes ≡ [] → IsAtEnd after.input) →
-    Stage site turns server left (cuts ++ (now, length bytes) ∷ []) qs after (ending_with l o)
-stage_with site turns c server left l cuts now bytes ps qs after (Some e) g is_l is_left h shows at_end = left_by site turns cuts now bytes qs after e h g.filled at_end
-stage_with site turns c server left zero cuts now bytes ps qs after None g is_l is_left h shows at_end =
-    let goes = goes_on_ending bytes (end_of site (timed qs)) h in
+stage_read : (site : Site) (turns : ℕ) (server : Server) (was : ℤ) (owed : List ℕ) (left : ℕ) (cuts : List Cut) (ps : List Piece) (out : List ℕ) (now : ℤ) (m : ℕ) (bytes : List ℕ) (after : Seen) →
+    Going site turns server [] was owed left cuts ps out → length bytes ≡ m → (m ≡ 0 → IsAtEnd after.input) →
+    Stage site turns server bytes now owed (left - 1) (cuts ++ (now, m) ∷ []) (more ps now bytes) out after (ending_at_read m server.held.rest)
+stage_read site turns server was owed left cuts ps out now zero bytes after g len at_end =
+    let none = no_bytes bytes len in
+    let all : timed (more ps now bytes) ≡ timed g.heard = ap (λ (b : List ℕ). timed (more ps now b)) none ∙ no_more ps now ∙ sym g.stream.bytes in
+    let rest : ended None server.held.rest ≡ end_of site (timed (more ps now bytes)) =
+    ap (λ (v : Server). ended None v.held.rest) g.shows ∙ input_ends site g.heard g.goes_on ∙ ap (λ t. end_of site t) (sym all) in
     record {
-      tells = λ n. (refl, omega (arith, length-append cuts ((now, length bytes) ∷ []), g.spends, g.some, is_l), none_empty_more cuts (now, length bytes) g.filled goes.0, goes.1);
-      unfailed = λ n. refl;
+      replied = ap (λ t. reply_bytes false site t) all ∙ g.replied;
+      tells = λ n. tells_input server.held.rest (end_of site (timed (more ps now bytes))) n turns (cuts ++ (now, 0) ∷ []) after rest
+          (record { before = cuts; now = now; is = refl; filled = g.filled }) (at_end refl);
+      unfailed = λ n. input_faults server.held.rest n;
     }
-stage_with site turns c server left (suc l) cuts now bytes ps qs after None g is_l is_left h shows at_end =
-    let goes = goes_on_ending bytes (end_of site (timed qs)) h in
-    record {
-      goes_on = goes.1;
-      shows = shows goes.1;
-      filled = none_empty_more cuts (now, length bytes) g.filled goes.0;
-      some = omega (arith, is_l, is_left);
-      spends = omega (arith, length-append cuts ((now, length bytes) ∷ []), g.spends, g.some, is_left);
-    }
-
--- ---- what the server makes of a read
-
-short : (out : ℕ) (said said' added : List ℕ) → said' ≡ said ++ added → out ≤ length said → min out (length said') ≡ out
-short out said said' added is within = min-eq_left (omega (arith, ap length is, length-append said added))
-
--- what it said is owed behind what was owed, and its end is that of all that came
-pub took : (site : Site) (ps : List Piece) (now : ℤ) (bytes : List ℕ) (old new : Shown) (out out' : ℕ) (said said' : List ℕ) (asked : List Request) (came end : Option End) (server : Server) →
-    Feeds site ps (piece_at now bytes) said said' asked came server → old.owed ≡ drop out said → out ≤ length said → out' ≡ min out (length said') → new.owed ≡ drop out' said' → new.left ≡ old.left - 1 →
-    new.server ≡ server → end ≡ ended_with came bytes (ended None server.held.rest) → new.ending ≡ ending_with (old.left - 1) end → Takes site ps now bytes old new
-took site ps now bytes old new out out' said said' asked came end server f was within least owes left is comes ends = record {
-  said = f.added;
-  replied = f.replied false;
-  owed = owes ∙ ap (λ k. drop k said') (least ∙ short out said said' f.added f.out_is within) ∙ ap (drop out) f.out_is ∙ drop-append-le out said f.added within ∙ ap (λ o. o ++ f.added) (sym was);
-  left = left;
-  ending = ends ∙ ap (ending_with (old.left - 1)) (comes ∙ ending_so site ps now bytes said said' asked came server f);
-  shows = λ goes. is ∙ f.shows (f.came_is ∙ goes);
+stage_read site turns server was owed left cuts ps out now (suc m) [] after g len at_end = absurd (omega (arith, len))
+stage_read site turns server was owed left cuts ps out now (suc m) (b ∷ bytes) after g len at_end = record {
+  heard = g.heard;
+  stream = more_same g.heard ps now (b ∷ bytes) g.stream;
+  replied = g.replied;
+  goes_on = g.goes_on;
+  shows = g.shows;
+  filled = none_empty_more cuts (now, suc m) g.filled (omega arith);
+  some = λ none. absurd (cc);
+  spends = omega (arith, length-append cuts ((now, suc m) ∷ []), g.spends, g.some refl);
 }
 
-takes_so : (site : Site) (ps : List Piece) (now : ℤ) (bytes : List ℕ) (old new : Shown) → old.server ≡ record { site = site; held = held site ps; failed = false } → GoesOn site ps → TakesAll now bytes old new →
-    Takes site ps now bytes old new
-takes_so site ps now bytes old new shows goes t =
-    let h = subst (λ (v : Server). (qs : List Piece) → GoesOn v.site qs → held v.site qs ≡ v.held → Takes v.site qs now bytes old new) shows t in h ps goes refl
-
--- The server took the bytes of a read.
-pub heard : (site : Site) (turns : ℕ) (old new : Shown) (cuts : List Cut) (n : ℕ) (before mid after : Seen) (now : ℤ) (bytes : List ℕ) → Standing site turns old cuts n before mid → old.ending ≡ None →
-    Consumes mid.input after.input bytes → (bytes ≡ [] → IsAtEnd after.input) → after.output ≡ mid.output → after.faults ≡ mid.faults → TakesAll now bytes old new →
-    Standing site turns new (cuts ++ (now, length bytes) ∷ []) n before after
-heard site turns old new cuts n before mid after now bytes s none input at_end output faults took =
+-- some bytes came, or the end of the input
+pub came_so : (site : Site) (turns : ℕ) (old new : Shown) (cuts : List Cut) (cut : Cut) (n : ℕ) (before mid after : Seen) → Standing site turns old cuts n before mid → Reads old new mid.input after.input (Some cut) →
+    after.output ≡ mid.output → after.faults ≡ mid.faults → Standing site turns new (cuts ++ cut ∷ []) n before after
+came_so site turns old new cuts cut n before mid after s r output faults =
     let ps = pieces_by cuts s.read in
-    let g : Going site turns old.server old.left cuts ps = subst (Stage site turns old.server old.left cuts ps mid) none s.stage in
-    let t = takes_so site ps now bytes old new g.shows g.goes_on took in
-    let pieces = pieces_more cuts (now, length bytes) s.read bytes s.lengths refl in
-    let E = end_of site (timed (more ps now bytes)) in
-    let stage = stage_with site turns old new.server new.left (old.left - 1) cuts now bytes ps (more ps now bytes) after (ending_at bytes E) g refl t.left refl t.shows at_end in
-    record {
+    let bytes = new.waiting in
+    let none : old.waiting ≡ [] = r.1 in
+    let len : length bytes ≡ cut.1 = r.2 in
+    let gone : Going site turns old.server old.waiting old.came old.owed old.left cuts ps s.out = subst (Stage site turns old.server old.waiting old.came old.owed old.left cuts ps s.out mid) r.0 s.stage in
+    let g : Going site turns old.server [] old.came old.owed old.left cuts ps s.out = subst (λ (w : List ℕ). Going site turns old.server w old.came old.owed old.left cuts ps s.out) none gone in
+    let pieces = pieces_more cuts cut s.read bytes s.lengths len in
+    let stage = stage_read site turns old.server old.came old.owed old.left cuts ps s.out cut.0 cut.1 bytes after g len r.5 in
+    let stands : Stands site turns old.server bytes cut.0 old.owed (old.left - 1) (ending_at_read cut.1 old.server.held.rest) (cuts ++ cut ∷ []) n before after = record {
       read = s.read ++ bytes;
-      input = Consumes-trans before.input mid.input after.input s.read bytes s.input input;
-      lengths = omega (arith, length-append s.read bytes, s.lengths, total_more cuts (now, length bytes));
+      input = Consumes-trans before.input mid.input after.input s.read bytes s.input r.4;
+      lengths = omega (arith, length-append s.read bytes, s.lengths, total_more cuts cut, len);
       out = s.out;
-      replied = ap (λ qs. reply_bytes false site (timed qs)) pieces ∙ t.replied ∙ ap (λ r. r ++ t.said) s.replied ∙ append_assoc s.out old.owed t.said ∙ ap (λ o. s.out ++ o) (sym t.owed);
       sent = subst (λ o. Appends before.output o s.out) (sym output) s.sent;
       written = s.written;
       counted = faults ∙ s.counted;
-      stage = subst (λ qs. Stage site turns new.server new.left (cuts ++ (now, length bytes) ∷ []) qs after new.ending) (sym pieces)
-          (subst (Stage site turns new.server new.left (cuts ++ (now, length bytes) ∷ []) (more ps now bytes) after) (sym t.ending) stage);
-    }
+      stage = subst (λ qs. Stage site turns old.server bytes cut.0 old.owed (old.left - 1) (cuts ++ cut ∷ []) qs s.out after (ending_at_read cut.1 old.server.held.rest)) (sym pieces) stage;
+    } in
+    subst (λ (v : Shown). Standing site turns v (cuts ++ cut ∷ []) n before after) (sym r.6) stands
 
--- A growth was refused while the server took them.
-pub starved : (site : Site) (turns : ℕ) (old : Shown) (cuts : List Cut) (n : ℕ) (before mid after : Seen) (now : ℤ) (bytes : List ℕ) → Standing site turns old cuts n before mid → old.ending ≡ None →
-    Consumes mid.input after.input bytes → after.output ≡ mid.output → after.faults ≡ mid.faults → Served false site turns before after NoMemory (cuts ++ (now, length bytes) ∷ []) n
-starved site turns old cuts n before mid after now bytes s none input output faults =
-    let ps = pieces_by cuts s.read in
-    let g : Going site turns old.server old.left cuts ps = subst (Stage site turns old.server old.left cuts ps mid) none s.stage in
-    let law = by_record site (held site ps) (piece_at now bytes) in
-    let gained = law.1 ps g.goes_on refl in
-    let pieces = pieces_more cuts (now, length bytes) s.read bytes s.lengths refl in
-    let replied = ap (λ qs. reply_bytes false site (timed qs)) pieces ∙ gained.replied false ∙ ap (λ r. r ++ law.0.bytes) s.replied ∙ append_assoc s.out old.owed law.0.bytes in
-    record {
-      read = s.read ++ bytes;
-      input = Consumes-trans before.input mid.input after.input s.read bytes s.input input;
-      lengths = omega (arith, length-append s.read bytes, s.lengths, total_more cuts (now, length bytes));
-      sent = sent_so before.output after.output _ s.out (old.owed ++ law.0.bytes) n replied s.written (subst (λ o. Appends before.output o s.out) (sym output) s.sent);
-      within = within_so _ s.out (old.owed ++ law.0.bytes) n replied s.written;
-      tells = tt;
+stage_unread : (site : Site) (turns : ℕ) (server : Server) (waiting : List ℕ) (came : ℤ) (owed : List ℕ) (left : ℕ) (cuts : List Cut) (ps : List Piece) (out : List ℕ) (before after : Seen) (ending : Option End) →
+    ((e : End) → ending ≡ Some e → after.input ≡ before.input) → Stage site turns server waiting came owed left cuts ps out before ending → Stage site turns server waiting came owed left cuts ps out after ending
+stage_unread site turns server waiting came owed left cuts ps out before after None same s = s
+stage_unread site turns server waiting came owed left cuts ps out before after (Some e) same s = leaving_still site turns owed e cuts ps out before after (same e refl) s
+
+not_read : (c : Shown) (e : End) → c.ending ≡ Some e → is_read c ≡ false
+not_read c e is = ap (λ (o : Option End). is_none o && length c.waiting == 0 && nat_le (length c.owed) 65536) is
+
+-- Nothing was there, or nothing was to be read.
+nothing_so : (site : Site) (turns : ℕ) (old new : Shown) (cuts : List Cut) (n : ℕ) (before mid after : Seen) → Standing site turns old cuts n before mid → Reads old new mid.input after.input None →
+    after.output ≡ mid.output → after.faults ≡ mid.faults → Standing site turns new cuts n before after
+nothing_so site turns old new cuts n before mid after s r output faults =
+    subst (λ (v : Shown). Standing site turns v cuts n before after) (sym r.0) (record {
+      read = s.read;
+      input = Consumes-kept before.input mid.input after.input s.read s.input r.1;
+      lengths = s.lengths;
+      out = s.out;
+      sent = subst (λ o. Appends before.output o s.out) (sym output) s.sent;
+      written = s.written;
       counted = faults ∙ s.counted;
+      stage = stage_unread site turns old.server old.waiting old.came old.owed old.left cuts (pieces_by cuts s.read) s.out mid after old.ending (λ e is. r.2 (not_read old e is)) s.stage;
+    })
+
+pub read_so : (site : Site) (turns : ℕ) (old new : Shown) (cuts : List Cut) (cut : Option Cut) (n : ℕ) (before mid after : Seen) → Standing site turns old cuts n before mid → Reads old new mid.input after.input cut →
+    after.output ≡ mid.output → after.faults ≡ mid.faults → Standing site turns new (cuts_with cut cuts) n before after
+read_so site turns old new cuts None n before mid after s r output faults = nothing_so site turns old new cuts n before mid after s r output faults
+read_so site turns old new cuts (Some cut) n before mid after s r output faults = came_so site turns old new cuts cut n before mid after s r output faults
+
+-- ---- what the server hears
+
+some_is : {a b : End} → Some a ≡ Some b → a ≡ b
+some_is h = cc
+
+-- an end to which the server came by itself
+tells_stop : (E e : End) (n turns : ℕ) (cuts : List Cut) (after : Seen) → stop E ≡ Some e → Tells e E n n turns cuts after
+tells_stop Closed e n turns cuts after h = subst (λ (x : End). Tells x Closed n n turns cuts after) (some_is h) (refl, refl)
+tells_stop (Refused status) e n turns cuts after h = subst (λ (x : End). Tells x (Refused status) n n turns cuts after) (some_is h) (refl, refl)
+tells_stop InputEnded e n turns cuts after h = absurd (cc)
+tells_stop Truncated e n turns cuts after h = absurd (cc)
+tells_stop LinkFailed e n turns cuts after h = absurd (cc)
+tells_stop TurnsSpent e n turns cuts after h = absurd (cc)
+tells_stop NoMemory e n turns cuts after h = absurd (cc)
+
+stop_faults : (E e : End) (n : ℕ) → stop E ≡ Some e → n ≡ faults_by e n
+stop_faults Closed e n h = ap (λ (x : End). faults_by x n) (some_is h)
+stop_faults (Refused status) e n h = ap (λ (x : End). faults_by x n) (some_is h)
+stop_faults InputEnded e n h = absurd (cc)
+stop_faults Truncated e n h = absurd (cc)
+stop_faults LinkFailed e n h = absurd (cc)
+stop_faults TurnsSpent e n h = absurd (cc)
+stop_faults NoMemory e n h = absurd (cc)
+
+-- The server came to an end by itself: what waits changes nothing.
+stage_ended : (site : Site) (turns : ℕ) (waiting : List ℕ) (came : ℤ) (owed : List ℕ) (cuts : List Cut) (ps heard : List Piece) (out : List ℕ) (after : Seen) (e : End) →
+    SameStream (behind heard came waiting) ps → reply_bytes false site (timed heard) ≡ out ++ owed → stop (end_of site (timed heard)) ≡ Some e → Leaving site turns owed e cuts ps out after
+stage_ended site turns waiting came owed cuts ps heard out after e stream replied h =
+    let law = stays false site heard (piece_at came waiting ∷ []) e h in
+    let all : timed ps ≡ timed (more heard came waiting) = sym stream.bytes ∙ behind_bytes heard came waiting in
+    let end : end_of site (timed ps) ≡ end_of site (timed heard) = ap (λ t. end_of site t) all ∙ law.2 in
+    record {
+      replied = ap (λ t. reply_bytes false site t) all ∙ law.0 ∙ replied;
+      tells = λ n. subst (λ (x : End). Tells e x n n turns cuts after) (sym end) (tells_stop (end_of site (timed heard)) e n turns cuts after h);
+      unfailed = λ n. stop_faults (end_of site (timed heard)) e n h;
     }
 
--- ---- a turn, whose clock said a moment before the server took what came
+stage_going : (site : Site) (turns : ℕ) (server : Server) (waiting : List ℕ) (came : ℤ) (owed : List ℕ) (left : ℕ) (cuts : List Cut) (ps heard : List Piece) (out : List ℕ) →
+    SameStream (behind heard came waiting) ps → reply_bytes false site (timed heard) ≡ out ++ owed → GoesOn site heard → server ≡ record { site = site; held = held site heard; failed = false } →
+    NoneEmpty cuts → length cuts + left ≡ turns → (waiting ≡ [] → 0 < left) → Going site turns server waiting came owed left cuts ps out
+stage_going site turns server waiting came owed left cuts ps heard out stream replied goes shows filled spends some = record {
+  heard = heard;
+  stream = stream;
+  replied = replied;
+  goes_on = goes;
+  shows = shows;
+  filled = filled;
+  some = some;
+  spends = spends;
+}
 
-pub came_whole : (site : Site) (turns : ℕ) (old noted new : Shown) (latest : ℕ) (cuts : List Cut) (n m : ℕ) (before mid after : Seen) (now : ℤ) (room : List ℕ) → Standing site turns old cuts n before mid → noted ≡ record old { latest = latest } →
-    old.ending ≡ None → ReadsNow {E = LinkFault} mid.input after.input (Ok (Some m)) room → 0 < length room → after.output ≡ mid.output → after.faults ≡ mid.faults → TakesAll now (take m room) noted new →
-    Standing site turns new (cuts ++ (now, m) ∷ []) n before after
-came_whole site turns old noted new latest cuts n m before mid after now room s is opened read some output faults took =
-    let s' = subst (λ (v : Shown). Standing site turns v cuts n before mid) (sym is) s in
-    let opened' = ap (λ (v : Shown). v.ending) is ∙ opened in
-    let at_end : take m room ≡ [] → IsAtEnd after.input = λ none. read.2 (none_read m room read.0 none) some in
-    subst (λ (k : ℕ). Standing site turns new (cuts ++ (now, k) ∷ []) n before after) (length-take-le m room read.0)
-    (heard site turns noted new cuts n before mid after now (take m room) s' opened' read.1 at_end output faults took)
+stage_with : (site : Site) (turns : ℕ) (server : Server) (waiting : List ℕ) (came : ℤ) (owed : List ℕ) (left : ℕ) (cuts : List Cut) (ps heard : List Piece) (out : List ℕ) (after : Seen) (o : Option End) →
+    SameStream (behind heard came waiting) ps → reply_bytes false site (timed heard) ≡ out ++ owed → (GoesOn site heard → server ≡ record { site = site; held = held site heard; failed = false }) →
+    NoneEmpty cuts → length cuts + left ≡ turns → stop (end_of site (timed heard)) ≡ o → Stage site turns server waiting came owed left cuts ps out after (ending_with waiting left o)
+stage_with site turns server waiting came owed left cuts ps heard out after (Some e) stream replied shows filled spends h = stage_ended site turns waiting came owed cuts ps heard out after e stream replied h
+stage_with site turns server [] came owed zero cuts ps heard out after None stream replied shows filled spends h = record {
+  replied = ap (λ t. reply_bytes false site t) (sym stream.bytes) ∙ replied;
+  tells = λ n. (refl, omega (arith, spends), filled, ap (λ t. stop (end_of site t)) (sym stream.bytes) ∙ h);
+  unfailed = λ n. refl;
+}
+stage_with site turns server [] came owed (suc left) cuts ps heard out after None stream replied shows filled spends h =
+    stage_going site turns server [] came owed (suc left) cuts ps heard out stream replied h (shows h) filled spends (λ none. omega arith)
+stage_with site turns server (b ∷ waiting) came owed left cuts ps heard out after None stream replied shows filled spends h =
+    stage_going site turns server (b ∷ waiting) came owed left cuts ps heard out stream replied h (shows h) filled spends (λ none. absurd (cc))
 
-pub came_in_vain : (site : Site) (turns : ℕ) (old noted : Shown) (latest : ℕ) (cuts : List Cut) (n m : ℕ) (before mid after : Seen) (now : ℤ) (room : List ℕ) → Standing site turns old cuts n before mid → noted ≡ record old { latest = latest } →
-    old.ending ≡ None → ReadsNow {E = LinkFault} mid.input after.input (Ok (Some m)) room → after.output ≡ mid.output → after.faults ≡ mid.faults → Served false site turns before after NoMemory (cuts ++ (now, m) ∷ []) n
-came_in_vain site turns old noted latest cuts n m before mid after now room s is opened read output faults =
-    subst (λ (k : ℕ). Served false site turns before after NoMemory (cuts ++ (now, k) ∷ []) n) (length-take-le m room read.0)
-    (starved site turns old cuts n before mid after now (take m room) s opened read.1 output faults)
+stage_taken : (site : Site) (turns : ℕ) (old new : Shown) (cuts : List Cut) (ps : List Piece) (out : List ℕ) (after : Seen) → Going site turns old.server old.waiting old.came old.owed old.left cuts ps out → TakesAll old new →
+    Stage site turns new.server new.waiting old.came new.owed old.left cuts ps out after new.ending
+stage_taken site turns old new cuts ps out after g all =
+    let t = all site g.heard g.goes_on g.shows in
+    let front : SameStream (behind t.heard old.came new.waiting) (behind g.heard old.came (t.given ++ new.waiting)) =
+    both (behind t.heard old.came new.waiting) (behind (behind g.heard old.came t.given) old.came new.waiting) (behind g.heard old.came (t.given ++ new.waiting))
+    (behind_same t.heard (behind g.heard old.came t.given) old.came new.waiting t.stream) (behind_parted g.heard old.came t.given new.waiting) in
+    let stream : SameStream (behind t.heard old.came new.waiting) ps =
+    both (behind t.heard old.came new.waiting) (behind g.heard old.came (t.given ++ new.waiting)) ps front (subst (λ (w : List ℕ). SameStream (behind g.heard old.came w) ps) t.waited g.stream) in
+    let replied = t.replied ∙ ap (λ (l : List ℕ). l ++ t.said) g.replied ∙ append_assoc out old.owed t.said ∙ ap (λ (o : List ℕ). out ++ o) (sym t.owed) in
+    subst (Stage site turns new.server new.waiting old.came new.owed old.left cuts ps out after) (sym t.ending)
+    (stage_with site turns new.server new.waiting old.came new.owed old.left cuts ps t.heard out after (stop (end_of site (timed t.heard))) stream replied t.shows g.filled g.spends refl)
 
-pub nothing_came : (site : Site) (turns : ℕ) (old noted : Shown) (latest : ℕ) (cuts : List Cut) (n : ℕ) (before mid after : Seen) → Standing site turns old cuts n before mid → noted ≡ record old { latest = latest } →
-    Keeps mid.input after.input → ((e : End) → old.ending ≡ Some e → after.input ≡ mid.input) → after.output ≡ mid.output → after.faults ≡ mid.faults → Standing site turns noted cuts n before after
-nothing_came site turns old noted latest cuts n before mid after s is kept same output faults =
-    subst (λ (v : Shown). Standing site turns v cuts n before after) (sym is) (unread site turns old cuts n before mid after s kept same output faults)
+stage_heard : (site : Site) (turns : ℕ) (old new : Shown) (cuts : List Cut) (ps : List Piece) (out : List ℕ) (after : Seen) (ending : Option End) → Stage site turns old.server old.waiting old.came old.owed old.left cuts ps out after ending →
+    old.ending ≡ ending → Hears old new → Stage site turns new.server new.waiting new.came new.owed new.left cuts ps out after new.ending
+stage_heard site turns old new cuts ps out after None g is h =
+    subst (λ (now : ℤ). Stage site turns new.server new.waiting now new.owed new.left cuts ps out after new.ending) (sym h.came)
+    (subst (λ (left : ℕ). Stage site turns new.server new.waiting old.came new.owed left cuts ps out after new.ending) (sym h.left) (stage_taken site turns old new cuts ps out after g (h.goes is)))
+stage_heard site turns old new cuts ps out after (Some e) l is h =
+    subst (λ (v : Shown). Stage site turns v.server v.waiting v.came v.owed v.left cuts ps out after v.ending) (sym (h.stays e is))
+    (subst (Stage site turns old.server old.waiting old.came old.owed old.left cuts ps out after) (sym is) l)
+
+-- The server heard what waits, as far as it was given that.
+pub heard_so : (site : Site) (turns : ℕ) (old new : Shown) (cuts : List Cut) (n : ℕ) (before after : Seen) → Standing site turns old cuts n before after → Hears old new → Standing site turns new cuts n before after
+heard_so site turns old new cuts n before after s h = record {
+  read = s.read;
+  input = s.input;
+  lengths = s.lengths;
+  out = s.out;
+  sent = s.sent;
+  written = s.written;
+  counted = s.counted;
+  stage = stage_heard site turns old new cuts (pieces_by cuts s.read) s.out after old.ending s.stage refl h;
+}

@@ -3,4 +3,7 @@ pub mod ReadLemmas
 pub mod EndLemmas
 pub mod TurnLemmas
 pub mod ReportLemmas
+pub mod StreamLemmas
+pub mod FrontLemmas
+pub mod HearLemmas
 pub mod ConnectionLemmas

@@ -6,4 +6,5 @@ pub mod Turns
 pub mod Reports
 pub mod ClientTurns
 pub mod ReadyLink
+pub mod Fronts
 pub mod Connections

@@ -4,6 +4,7 @@
 mod client_turn;
 mod clock;
 mod connection;
+mod front;
 mod link;
 mod memory_link;
 mod ready_link;
@@ -12,6 +13,7 @@ mod sending;
 mod serving;
 mod tcp_link;
 mod turn;
+mod waiting;
 
 pub use client_turn::{ClientTurn, pump_client, send_output};
 pub use clock::{Clock, MachineClock, SteadyClock};

@@ -254,20 +254,23 @@ fn a_link_that_fails_ends_its_connection_alone(rt: HostRuntime) {
 }
 
 /// A client asks two thousand times and takes nothing. A read of 4096 bytes is there each time; behind so many of them
-/// `188 + 93 n` bytes are n requests, to which `163 + 134 n` bytes are owed: 64,751 behind eleven reads, 70,647 behind
-/// twelve.
+/// `188 + 93 n` bytes are n requests, to which `163 + 134 n` bytes are owed: 64,751 behind eleven reads. Of the twelfth six
+/// more are heard, to which 65,555 are owed, and 3,580 bytes wait.
 const TWELVE: Row = (0, 0, 0, Some(4096), 0, None);
 
-/// It takes 5,110 bytes, and 65,537 are owed; one more, and it is read again: 71,432 are owed then.
-const TAKES_SOME: [Row; 8] = [
+/// It takes 5,110 bytes, and 38 more requests are heard: 65,537 are owed, and the first half of a request waits. It takes
+/// one more: that is heard, then the next read, and of that one request: 65,670 are owed. And it takes an answer: one more is
+/// heard.
+const TAKES_SOME: [Row; 9] = [
     NOTHING,
     (0, 0, 5110, None, 5110, None),
     NOTHING,
     (0, 0, 1, None, 1, None),
+    NOTHING,
     TWELVE,
     NOTHING,
-    (0, 0, 5896, None, 5896, None),
-    TWELVE,
+    (0, 0, 134, None, 134, None),
+    NOTHING,
 ];
 
 /// Whether it is read no further than that, and then to its end as it takes all.
@@ -280,7 +283,7 @@ fn is_bounded(connection: &mut ServerConnection, asks: &[u8], replies: &[u8]) ->
         return false;
     }
     client.room = usize::MAX;
-    let mut came = (14 * 4096, 5110 + 1 + 5896, None);
+    let mut came = (13 * 4096, 5110 + 1 + 134, None);
     for _ in 0..40 {
         came = add_turn(connection, &mut client, 0, came);
     }

@@ -1,6 +1,6 @@
 //! One connection of a server that has several, turn by turn: what comes and goes in each, and which one is its last.
 
-use crate::ready_links::{Caller, turned, waiting};
+use crate::ready_links::{Caller, turned, turned_at, waiting};
 use std::alloc::Global;
 use ua_conn::End;
 use ua_disco::Settings;
@@ -8,7 +8,7 @@ use ua_link::{Over, ReadyTurn, ServerConnection};
 use ua_test_lent::by_default;
 use ua_test_shared::bytes::joined;
 use ua_test_shared::lending::passes;
-use ua_test_shared::vectors::{ACKNOWLEDGE, CALLS, HELLO};
+use ua_test_shared::vectors::{ACKNOWLEDGE, CALLS, FIND_REQUEST, HELLO, OPENING};
 
 /// The reads of a connection, more than a test makes.
 pub(crate) const TURNS: u32 = 1000;
@@ -73,11 +73,29 @@ fn begins(
     )
 }
 
-/// A client that says nothing, and one that says Hello; nobody leaves.
+/// A client that says Hello, and does not leave.
 fn staying(says: &[u8]) -> Caller<'_> {
     let mut client = waiting(says, Some(ACKNOWLEDGE));
     client.leaves = false;
     client
+}
+
+/// Whether a connection has these turns with a client that opens a channel and asks; it does not leave.
+fn opens(
+    alloc: Global,
+    settings: &Settings,
+    begun: i64,
+    patience: u64,
+    rows: &[Row],
+) -> bool {
+    match joined(alloc, &[OPENING, FIND_REQUEST]) {
+        Ok(says) => {
+            let mut client = waiting(says.as_slice(), None);
+            client.leaves = false;
+            begins(alloc, settings, client, begun, patience, rows)
+        }
+        Err(_) => false,
+    }
 }
 
 const BEGUN: i64 = 1000;
@@ -92,20 +110,21 @@ const QUIET: [Row; 4] = [
     (1100, 0, 0, None, 0, OUT),
 ];
 
-/// A byte that comes gives the whole time again, however late it is.
-const COMES: [Row; 7] = [
-    (1000, 1, 0, Some(1), 0, None),
+/// Once the channel is open, a byte that comes gives the whole time again, however late it is.
+const COMES: [Row; 8] = [
+    (1000, 188, 163, Some(188), 163, None),
     (1099, 1, 0, Some(1), 0, None),
     (1198, 0, 0, None, 0, None),
     (1199, 1, 0, Some(1), 0, None),
-    (9000, 1, 0, Some(1), 0, None),
-    (9099, 0, 0, None, 0, None),
-    (9100, 0, 0, None, 0, OUT),
+    (1298, 0, 0, None, 0, None),
+    (1900, 1, 0, Some(1), 0, None),
+    (1999, 0, 0, None, 0, None),
+    (2000, 0, 0, None, 0, OUT),
 ];
 
 /// So does one that goes out.
 const GOES: [Row; 6] = [
-    (1000, 56, 0, Some(56), 0, None),
+    (1000, 188, 0, Some(188), 0, None),
     (1099, 0, 1, None, 1, None),
     (1198, 0, 0, None, 0, None),
     (9000, 0, 26, None, 26, None),
@@ -115,31 +134,24 @@ const GOES: [Row; 6] = [
 
 /// The client asks, and takes nothing of what is owed to it.
 const NEVER_READS: [Row; 3] = [
-    (1000, 56, 0, Some(56), 0, None),
+    (1000, 188, 0, Some(188), 0, None),
     (1099, 0, 0, None, 0, None),
     (1100, 0, 0, None, 0, OUT),
 ];
 
 /// All is out, and nothing more comes.
 const ANSWERED: [Row; 3] = [
-    (1050, 56, 28, Some(56), 28, None),
+    (1050, 188, 163, Some(188), 163, None),
     (1149, 0, 0, None, 0, None),
     (1150, 0, 0, None, 0, OUT),
 ];
 
 fn is_patient(alloc: Global, settings: &Settings) -> bool {
     begins(alloc, settings, staying(HELLO), BEGUN, PATIENCE, &QUIET)
-        && begins(alloc, settings, staying(HELLO), BEGUN, PATIENCE, &COMES)
-        && begins(alloc, settings, staying(HELLO), BEGUN, PATIENCE, &GOES)
-        && begins(
-            alloc,
-            settings,
-            staying(HELLO),
-            BEGUN,
-            PATIENCE,
-            &NEVER_READS,
-        )
-        && begins(alloc, settings, staying(HELLO), BEGUN, PATIENCE, &ANSWERED)
+        && opens(alloc, settings, BEGUN, PATIENCE, &COMES)
+        && opens(alloc, settings, BEGUN, PATIENCE, &GOES)
+        && opens(alloc, settings, BEGUN, PATIENCE, &NEVER_READS)
+        && opens(alloc, settings, BEGUN, PATIENCE, &ANSWERED)
 }
 
 #[test]
@@ -172,7 +184,8 @@ const BACK_AND_FORTH: [Row; 10] = [
 ];
 
 /// A byte comes as the clock went back: its moment is the greatest before it.
-const COMES_BEFORE: [Row; 4] = [
+const COMES_BEFORE: [Row; 5] = [
+    (1000, 188, 163, Some(188), 163, None),
     (1050, 0, 0, None, 0, None),
     (500, 1, 0, Some(1), 0, None),
     (1149, 0, 0, None, 0, None),
@@ -207,14 +220,7 @@ fn is_patient_with_its_clock(alloc: Global, settings: &Settings) -> bool {
             PATIENCE,
             &BACK_AND_FORTH,
         )
-        && begins(
-            alloc,
-            settings,
-            staying(HELLO),
-            BEGUN,
-            PATIENCE,
-            &COMES_BEFORE,
-        )
+        && opens(alloc, settings, BEGUN, PATIENCE, &COMES_BEFORE)
         && begins(alloc, settings, staying(HELLO), BEGUN, PATIENCE, &FAR_BACK)
         && begins(alloc, settings, staying(HELLO), -1000, PATIENCE, &BEFORE_0)
         && begins(
@@ -243,7 +249,7 @@ const LEAVES_OWING: [Row; 3] = [
 
 /// Without patience a turn in which nothing moves is the last.
 const AT_ONCE: [Row; 2] = [
-    (1000, 56, 28, Some(56), 28, None),
+    (1000, 188, 163, Some(188), 163, None),
     (1000, 0, 0, None, 0, OUT),
 ];
 
@@ -268,7 +274,7 @@ fn ends_or_is_quiet(alloc: Global, settings: &Settings) -> bool {
         BEGUN,
         PATIENCE,
         &LEAVES_OWING,
-    ) && begins(alloc, settings, staying(HELLO), BEGUN, 0, &AT_ONCE)
+    ) && opens(alloc, settings, BEGUN, 0, &AT_ONCE)
         && begins(alloc, settings, staying(HELLO), 0, u64::MAX, &FOR_EVER)
 }
 
@@ -277,44 +283,86 @@ fn an_end_comes_before_patience(rt: HostRuntime) {
     assert!(rt; by_default(rt.alloc(), ends_or_is_quiet));
 }
 
-/// Whether a byte comes each 99 ticks, and none is the last before all have come.
-fn is_heard_slowly(connection: &mut ServerConnection, calls: &[u8]) -> bool {
-    let mut client = waiting(calls, None);
-    let mut now = BEGUN;
-    let mut written = 0usize;
-    for left in (0..calls.len()).rev() {
-        client.let_more(1, 1000);
-        let Some(turn) = turned(connection, &mut client, now, PATIENCE) else {
-            return false;
-        };
-        let over = if left == 0 {
-            Some(Over::Ended(End::Closed))
-        } else {
-            None
-        };
-        if turn.cut != Some((now, 1)) || turn.over != over {
-            return false;
-        }
-        written = written.saturating_add(turn.written);
-        now = now.saturating_add(99);
-    }
-    calls.len() == 338 && written == 297
-}
+/// Bytes come, and no channel is open in time.
+const UNOPENED: [Row; 4] = [
+    (1000, 1, 0, Some(1), 0, None),
+    (1050, 55, 28, Some(55), 28, None),
+    (1099, 1, 0, Some(1), 0, None),
+    (1100, 1, 0, Some(1), 0, OUT),
+];
 
-fn are_heard_slowly(alloc: Global, settings: &Settings) -> bool {
-    let connection = ServerConnection::new(alloc, settings, 1, BEGUN, TURNS).ok();
-    passes(connection, |connection| match joined(alloc, &CALLS) {
-        Ok(calls) => is_heard_slowly(connection, calls.as_slice()),
-        Err(_) => false,
-    })
+/// The channel is open in time, and then nobody is asked for one.
+const OPENED_LATE: [Row; 4] = [
+    (1000, 56, 28, Some(56), 28, None),
+    (1099, 132, 135, Some(132), 135, None),
+    (1198, 0, 0, None, 0, None),
+    (1199, 0, 0, None, 0, OUT),
+];
+
+fn is_to_open(alloc: Global, settings: &Settings) -> bool {
+    opens(alloc, settings, BEGUN, PATIENCE, &UNOPENED)
+        && opens(alloc, settings, BEGUN, PATIENCE, &OPENED_LATE)
 }
 
 #[test]
-fn a_byte_a_round_is_enough(rt: HostRuntime) {
+fn a_channel_is_open_within_patience(rt: HostRuntime) {
+    assert!(rt; by_default(rt.alloc(), is_to_open));
+}
+
+/// The turn of a connection by which its client gave no whole frame for too long, where a byte comes each time, so many
+/// ticks after the one before; none where that never is.
+fn ended_within(connection: &mut ServerConnection, client: &mut Caller, step: i64) -> Option<i64> {
+    let mut now = BEGUN;
+    client.let_more(188, usize::MAX);
+    for _ in 0..200 {
+        let turn = turned(connection, client, now, PATIENCE)?;
+        match turn.over {
+            Some(Over::TimedOut) => return Some(now),
+            Some(Over::Ended(_)) => return None,
+            None => {}
+        }
+        client.let_more(1, 0);
+        now = now.saturating_add(step);
+    }
+    None
+}
+
+/// For steps of so many ticks, the moment at which a connection times out whose channel was open at 1000: a frame of 93
+/// bytes that began a step later, and is whole 92 steps behind that, is in time where these are less than 1000 ticks.
+const STEPS: [(i64, Option<i64>); 4] = [
+    (1, None),
+    (10, None),
+    (11, Some(2012)),
+    (99, Some(2188)),
+];
+
+fn are_slow(alloc: Global, settings: &Settings, calls: &[u8]) -> bool {
+    let mut right = true;
+    for (step, out) in STEPS {
+        let mut client = waiting(calls, None);
+        let connection = ServerConnection::new(alloc, settings, 1, BEGUN, TURNS).ok();
+        right &= passes(
+            connection,
+            |connection| ended_within(connection, &mut client, step) == out,
+        );
+    }
+    right
+}
+
+fn are_heard_slowly(alloc: Global, settings: &Settings) -> bool {
+    match joined(alloc, &CALLS) {
+        Ok(calls) => are_slow(alloc, settings, calls.as_slice()),
+        Err(_) => false,
+    }
+}
+
+#[test]
+fn a_byte_a_round_is_enough_while_frames_come_whole(rt: HostRuntime) {
     assert!(rt; by_default(rt.alloc(), are_heard_slowly));
 }
 
-/// What is left of patience, by the latest moment of the turns before: at 1000 it began, at 1030 a byte came.
+/// What is left of patience, by the latest moment of the turns before: at 1000 it began, and its channel was
+/// open; at 1030 a byte came.
 const LEFT: [(i64, u64, u64); 9] = [
     (1030, 100, 100),
     (1031, 100, 99),
@@ -327,12 +375,15 @@ const LEFT: [(i64, u64, u64); 9] = [
     (1030, 0, 0),
 ];
 
-fn has_left(connection: &mut ServerConnection) -> bool {
-    let mut client = staying(HELLO);
+fn has_left(connection: &mut ServerConnection, calls: &[u8]) -> bool {
+    let mut client = waiting(calls, None);
     let before = connection.patience_left(1000, 100) == 100
         && connection.patience_left(1040, 100) == 60
         && connection.patience_left(1100, 100) == 0;
-    let comes = [(1030, 1, 0, Some(1), 0, None)];
+    let comes = [
+        (1000, 188, 163, Some(188), 163, None),
+        (1030, 1, 0, Some(1), 0, None),
+    ];
     if !before || !are_rows(connection, &mut client, PATIENCE, &comes) {
         return false;
     }
@@ -346,12 +397,58 @@ fn has_left(connection: &mut ServerConnection) -> bool {
 
 fn have_left(alloc: Global, settings: &Settings) -> bool {
     let connection = ServerConnection::new(alloc, settings, 1, BEGUN, TURNS).ok();
-    passes(connection, has_left)
+    passes(connection, |connection| match joined(alloc, &CALLS) {
+        Ok(calls) => has_left(connection, calls.as_slice()),
+        Err(_) => false,
+    })
 }
 
 #[test]
 fn patience_is_left_by_the_greatest_moment(rt: HostRuntime) {
     assert!(rt; by_default(rt.alloc(), have_left));
+}
+
+/// Whether the day's clock ends nobody, whatever it says: the answers have its moments, and patience goes by the other.
+fn is_of_no_day(connection: &mut ServerConnection, calls: &[u8]) -> bool {
+    let mut client = waiting(calls, None);
+    let mut right = true;
+    for (day, steady, over) in [
+        (i64::MAX, 1000, None),
+        (0, 1001, None),
+        (i64::MIN, 1099, None),
+        (5000, 1100, None),
+        (i64::MAX, 1199, None),
+        (0, 1200, OUT),
+    ] {
+        client.let_more(if steady == 1000 { 188 } else { 0 }, usize::MAX);
+        if steady == 1100 {
+            client.let_more(1, 0);
+        }
+        match turned_at(connection, &mut client, day, steady, PATIENCE) {
+            Some(turn) => {
+                right &= turn.over == over && turn.moment == steady;
+                right &= match turn.cut {
+                    Some((moment, _)) => moment == day,
+                    None => true,
+                };
+            }
+            None => right = false,
+        }
+    }
+    right
+}
+
+fn are_of_no_day(alloc: Global, settings: &Settings) -> bool {
+    let connection = ServerConnection::new(alloc, settings, 1, BEGUN, TURNS).ok();
+    passes(connection, |connection| match joined(alloc, &CALLS) {
+        Ok(calls) => is_of_no_day(connection, calls.as_slice()),
+        Err(_) => false,
+    })
+}
+
+#[test]
+fn a_clock_that_is_set_ends_nobody(rt: HostRuntime) {
+    assert!(rt; by_default(rt.alloc(), are_of_no_day));
 }
 
 /// What comes and goes moves; the end of the input, and a read that gives nothing, do not.

@@ -194,15 +194,26 @@ impl<'a> ReadyLink for Noting<'a> {
     }
 }
 
-/// A turn of the connection at this moment; none where its link failed too often to count that.
+/// A turn of the connection, where both clocks say this moment; none where its link failed too often to count that.
 pub(crate) fn turned<L: ReadyLink>(
     connection: &mut ServerConnection,
     link: &mut L,
     now: i64,
     patience: u64,
 ) -> Option<ReadyTurn> {
+    turned_at(connection, link, now, now, patience)
+}
+
+/// The same, where the clock of the day and the steady one say these.
+pub(crate) fn turned_at<L: ReadyLink>(
+    connection: &mut ServerConnection,
+    link: &mut L,
+    day: i64,
+    steady: i64,
+    patience: u64,
+) -> Option<ReadyTurn> {
     if link.failures() == u64::MAX {
         return None;
     }
-    Some(connection.turn(link, &mut At(now), patience))
+    Some(connection.turn(link, &mut At(day), &mut At(steady), patience))
 }
