@@ -12,7 +12,7 @@ use Rattle.ua_conn.specs.server.Replies.{handed}
 use Rattle.ua_conn.specs.client.Commands.{Commands, Asked, asked_in}
 use Rattle.ua_conn.specs.client.Past.{granted_in}
 use Rattle.ua_conn.specs.client.Reading.{ClientReading, client_reading_of, client_fault, answers, matched}
-use Rattle.ua_conn.specs.Story.{Setup, World, server_stream, final}
+use Rattle.ua_conn.specs.Story.{Setup, World, server_stream, begun, final}
 use Rattle.ua_conn.specs.BothEnds.{AllAfter, IsSetup, IsSchedule, IsLive, TokensLive, Delivered, Served, served, AnswersInOrder, expected, HandedAndAccepted, NothingRefused, NoneUnanswered}
 use Rattle.ua_conn.specs.declared.client.answer.Answer.{Answer}
 use Rattle.ua_conn.specs.declared.schedule.Step.{Step}

@@ -1,18 +1,18 @@
-use Rattle.std.proofs.Common.{◌≡◌, Bool, true, false, cond, List, [], ◌∷◌, length, Option, Some, None, refl, ap, ◌∙◌}
+use Rattle.std.proofs.Common.{◌≡◌, ℕ, Bool, true, false, cond, List, [], ◌∷◌, length, Option, Some, None, refl, ap, ◌∙◌}
 use Rattle.std.specs.Prelude.{not, ◌==◌, ◌&&◌, ◌||◌, is_some, is_none, option_map}
 use Rattle.ua_frame.specs.Layout.{kind_of, flag_of}
 use Rattle.ua_frame.specs.Rows.{first_row, or_else}
 use Rattle.ua_frame.specs.declared.kind.Kind.{Kind}
 use Rattle.ua_conn.specs.Past.{carried}
 use Rattle.ua_conn.specs.server.Faults.{fault_at, frame_rows, is_unopened}
-use Rattle.ua_conn.specs.client.Past.{client_known, awaits_reverse}
+use Rattle.ua_conn.specs.client.Past.{client_known, awaits_reverse, reverse_in}
 use Rattle.ua_conn.specs.client.Pending.{bytes_in, wanted_at, due_at}
-use Rattle.ua_conn.specs.client.Faults.{FaultRow, client_fault_by, client_rows, token_usable}
+use Rattle.ua_conn.specs.client.Faults.{FaultRow, broken, reverse_rows, client_fault_by, client_rows, token_usable}
 use Rattle.ua_conn.specs.declared.client.fault.ClientFault.TheVariants.{Broken}
 use Rattle.ua_conn.proofs.laws.reverse_hello_refused.Goals as goal
 
 -- neither before the Hello, nor before the opening, nor behind it
-never : (a b : Bool) → first_row ((not (cond a false (cond b false false)), 0x807E0000) ∷ []) ≡ Some 0x807E0000
+never : (a b : Bool) → first_row {S = ℕ} ((not (cond a false (cond b false false)), 0x807E0000) ∷ []) ≡ Some 0x807E0000
 never true b = refl
 never false true = refl
 never false false = refl
@@ -40,4 +40,4 @@ returns-clause-clients c = λ a cmds past f none kind fine.
     let rows : Bool → Option Kind → List FaultRow = λ reverse κ. client_rows a reverse k due wanted (token_usable k f) f (flag_of f.bytes) κ in
     ap (λ o. or_else (option_map Broken o) (first_row (rows (awaits_reverse a.reverse past) (kind_of f.bytes)))) fine
     ∙ (λ i. first_row (rows (none i) (kind i)))
-    ∙ never_awaited (is_none k.ack) (length k.tokens == 0) (is_some due) _)
+    ∙ never_awaited (is_none k.ack) (length k.tokens == 0) (is_some due) (broken (reverse_rows (reverse_in f))))
