@@ -1,12 +1,11 @@
 -- One of several connections, turn after turn.
-use Rattle.std.proofs.Common.{arith, ◌≡◌, ℕ, zero, suc, ◌+◌, ◌-◌, ◌<◌, ◌≤◌, ◌==◌, ◌&&◌, nat_lt, nat_le, ℤ, pos, Bool, true, false, List, [], ◌∷◌, ◌++◌, length, take, drop, Option, Some, None, is_none, refl, sym, ap, subst, ◌∙◌, ◌⊎◌, inl, inr, length-append, append_assoc}
-use Rattle.std.proofs.lemmas.Bool.{and_true}
+use Rattle.std.proofs.Common.{arith, ◌≡◌, ℕ, zero, suc, ◌+◌, ◌-◌, ◌<◌, ◌≤◌, ◌==◌, ◌&&◌, nat_lt, nat_le, ℤ, pos, Bool, true, false, List, [], ◌∷◌, ◌++◌, length, take, drop, Option, Some, None, IfSome, is_none, refl, sym, ap, subst, ◌∙◌, ◌⊎◌, inl, inr, length-append, append_assoc}
 use Rattle.std.proofs.lemmas.Bool.Decides.{nat_tests}
 use Rattle.std.proofs.Math.Seq.{take-append_seam}
-use Rattle.std.proofs.lemmas.List.{append-nil, take-append-drop, length-take-le}
+use Rattle.std.proofs.lemmas.List.{append-nil, take-append-drop, length-take-le, length-drop}
 use Rattle.std.specs.Io.KnownBytes.{Appends, Consumes, Keeps, IsAtEnd}
 use Rattle.std.proofs.KnownBytes.{Appends-nil, Appends-trans, Appends-kept, Consumes-nil, Consumes-trans, Consumes-kept, Keeps-refl}
-use Rattle.ua_frame.specs.Streams.{Piece, timed}
+use Rattle.ua_frame.specs.Streams.{Piece, timed, rest_within}
 use Rattle.ua_conn.specs.server.Site.{Site}
 use Rattle.ua_conn.specs.server.Replies.{reply_bytes, end_of, ended}
 use Rattle.ua_conn.specs.server.Held.{held, stop, GoesOn}
@@ -18,13 +17,19 @@ use Rattle.ua_conn.proofs.ServerEnd.StopLemmas.{stays}
 use Rattle.ua_link.specs.Reads.{Cut, piece_at, total, pieces_by, NoneEmpty, LastEmpty}
 use Rattle.ua_link.specs.Turns.{Seen, more}
 use Rattle.ua_link.specs.Reports.{Tells, Served, faults_by, cuts_with}
-use Rattle.ua_link.specs.Connections.{Shown, SameStream, behind, Takes, TakesAll, Hears, Reads, Going, Leaving, Stage, Stands, Standing, Dropped, Leaves, Judges, ending_with, ending_at_read, is_read}
+use Rattle.ua_link.specs.Connections.{Shown, SameStream, behind, IsBounded, Takes, TakesAll, Hears, Reads, Going, Leaving, Stage, Stands, Standing, Dropped, Leaves, Judges, Fed, IsFed, ending_with, ending_at_read, is_read, is_heard, bytes_of}
 use Rattle.ua_link.specs.declared.connection.Over.{Over}
 use Rattle.ua_link.specs.declared.connection.Over.TheVariants.{Ended, TimedOut}
 use Rattle.ua_link.proofs.ReadLemmas.{total_more, pieces_more, none_empty_more}
 use Rattle.ua_link.proofs.EndLemmas.{nothing_yet, input_ends}
 use Rattle.ua_link.proofs.StreamLemmas.{same, other, both, more_same, behind_same, behind_parted, behind_bytes, no_more}
+use Rattle.ua_link.proofs.HearLemmas.{and_true, no_end, either_end}
 use Rattle.ua_link.proofs.ReportLemmas.{nothing_said}
+
+-- A server that heard nothing holds no byte.
+pub first_rest : (site : Site) (rest : List ℕ) → rest ≡ (held site []).rest → rest ≡ []
+unfolding held rest_within
+first_rest site rest is = is
 
 pub fresh : (site : Site) (turns : ℕ) (s : Seen) → 0 < turns →
     Stands site turns (record { site = site; held = held site []; failed = false }) [] (pos 0) [] turns None [] 0 s s
@@ -201,6 +206,23 @@ no_bytes : (b : List ℕ) → length b ≡ 0 → b ≡ []
 no_bytes [] e = refl
 no_bytes (x ∷ b) e = absurd (omega (arith, e))
 
+-- a connection that is read
+read_open : (c : Shown) → is_read c ≡ true → (c.ending ≡ None) × (c.waiting ≡ [])
+read_open c h =
+    let t = and_true (is_none c.ending && length c.waiting == 0) (nat_le (length c.owed) 65536) h in
+    let u = and_true (is_none c.ending) (length c.waiting == 0) t.0 in
+    let none = u.1 in
+    (no_end c.ending u.0, no_bytes c.waiting (grind (arith, nat_tests, none)))
+
+-- what a read leaves as it was, and what it brings
+reads_same : (old new : Shown) (input input' : Option (List ℕ)) (cut : Option Cut) → Reads old new input input' cut → (new.server ≡ old.server) × (new.owed ≡ old.owed) × (length new.waiting ≡ length old.waiting + bytes_of cut)
+reads_same old new input input' None r = (ap (λ (v : Shown). v.server) r.0, ap (λ (v : Shown). v.owed) r.0, omega (arith, ap (λ (v : Shown). length v.waiting) r.0))
+reads_same old new input input' (Some cut) r = (ap (λ (v : Shown). v.server) r.5, ap (λ (v : Shown). v.owed) r.5, omega (arith, r.1, ap length (read_open old r.0).1))
+
+pub cut_so : (old new : Shown) (input input' : Option (List ℕ)) (cut : Option Cut) → Reads old new input input' cut → IfSome cut (λ cut. (is_read old ≡ true) × (cut.1 ≤ 4096))
+cut_so old new input input' None r = tt
+cut_so old new input input' (Some cut) r = (r.0, r.2)
+
 -- where the reads stand behind one more
 stage_read : (site : Site) (turns : ℕ) (server : Server) (was : ℤ) (owed : List ℕ) (left : ℕ) (cuts : List Cut) (ps : List Piece) (out : List ℕ) (now : ℤ) (m : ℕ) (bytes : List ℕ) (after : Seen) →
     Going site turns server [] was owed left cuts ps out → length bytes ≡ m → (m ≡ 0 → IsAtEnd after.input) →
@@ -234,15 +256,16 @@ pub came_so : (site : Site) (turns : ℕ) (old new : Shown) (cuts : List Cut) (c
 came_so site turns old new cuts cut n before mid after s r output faults =
     let ps = pieces_by cuts s.read in
     let bytes = new.waiting in
-    let none : old.waiting ≡ [] = r.1 in
-    let len : length bytes ≡ cut.1 = r.2 in
-    let gone : Going site turns old.server old.waiting old.came old.owed old.left cuts ps s.out = subst (Stage site turns old.server old.waiting old.came old.owed old.left cuts ps s.out mid) r.0 s.stage in
+    let opened = read_open old r.0 in
+    let none : old.waiting ≡ [] = opened.1 in
+    let len : length bytes ≡ cut.1 = r.1 in
+    let gone : Going site turns old.server old.waiting old.came old.owed old.left cuts ps s.out = subst (Stage site turns old.server old.waiting old.came old.owed old.left cuts ps s.out mid) opened.0 s.stage in
     let g : Going site turns old.server [] old.came old.owed old.left cuts ps s.out = subst (λ (w : List ℕ). Going site turns old.server w old.came old.owed old.left cuts ps s.out) none gone in
     let pieces = pieces_more cuts cut s.read bytes s.lengths len in
-    let stage = stage_read site turns old.server old.came old.owed old.left cuts ps s.out cut.0 cut.1 bytes after g len r.5 in
+    let stage = stage_read site turns old.server old.came old.owed old.left cuts ps s.out cut.0 cut.1 bytes after g len r.4 in
     let stands : Stands site turns old.server bytes cut.0 old.owed (old.left - 1) (ending_at_read cut.1 old.server.held.rest) (cuts ++ cut ∷ []) n before after = record {
       read = s.read ++ bytes;
-      input = Consumes-trans before.input mid.input after.input s.read bytes s.input r.4;
+      input = Consumes-trans before.input mid.input after.input s.read bytes s.input r.3;
       lengths = omega (arith, length-append s.read bytes, s.lengths, total_more cuts cut, len);
       out = s.out;
       sent = subst (λ o. Appends before.output o s.out) (sym output) s.sent;
@@ -250,7 +273,7 @@ came_so site turns old new cuts cut n before mid after s r output faults =
       counted = faults ∙ s.counted;
       stage = subst (λ qs. Stage site turns old.server bytes cut.0 old.owed (old.left - 1) (cuts ++ cut ∷ []) qs s.out after (ending_at_read cut.1 old.server.held.rest)) (sym pieces) stage;
     } in
-    subst (λ (v : Shown). Standing site turns v (cuts ++ cut ∷ []) n before after) (sym r.6) stands
+    subst (λ (v : Shown). Standing site turns v (cuts ++ cut ∷ []) n before after) (sym r.5) stands
 
 stage_unread : (site : Site) (turns : ℕ) (server : Server) (waiting : List ℕ) (came : ℤ) (owed : List ℕ) (left : ℕ) (cuts : List Cut) (ps : List Piece) (out : List ℕ) (before after : Seen) (ending : Option End) →
     ((e : End) → ending ≡ Some e → after.input ≡ before.input) → Stage site turns server waiting came owed left cuts ps out before ending → Stage site turns server waiting came owed left cuts ps out after ending
@@ -379,3 +402,49 @@ heard_so site turns old new cuts n before after s h = record {
   counted = s.counted;
   stage = stage_heard site turns old new cuts (pieces_by cuts s.read) s.out after old.ending s.stage refl h;
 }
+
+-- ---- a turn
+
+-- what the server heard, whether it was read then or before
+fed_by : (site : Site) (ps : List Piece) (old mid noted heard : Shown) (cut : Option Cut) → noted.waiting ≡ mid.waiting → noted.owed ≡ mid.owed → mid.owed ≡ old.owed → length mid.waiting ≡ length old.waiting + bytes_of cut →
+    (noted.ending ≡ None → Takes site ps noted heard) → ((e : End) → noted.ending ≡ Some e → heard ≡ noted) → heard.came ≡ noted.came → (noted.ending ≡ None) ⊎ ((e : End) × (noted.ending ≡ Some e)) → Fed site ps old heard cut
+fed_by site ps old mid noted heard cut same owed still amount takes stays came (inl none) =
+    let t = takes none in
+    record {
+      given = t.given;
+      amount = omega (arith, ap length t.waited, length-append t.given heard.waiting, ap length same, amount);
+      bounded = λ some. subst (λ (now : ℤ). IsBounded site ps now t.given (length old.owed)) (sym came) (subst (λ (o : List ℕ). IsBounded site ps noted.came t.given (length o)) (owed ∙ still) (t.bounded some));
+    }
+fed_by site ps old mid noted heard cut same owed still amount takes stays came (inr ended) = record {
+  given = [];
+  amount = omega (arith, ap (λ (v : Shown). length v.waiting) (stays ended.0 ended.1), ap length same, amount);
+  bounded = λ some. absurd (omega (arith, some));
+}
+
+pub fed_so : (old mid noted heard : Shown) (latest : ℕ) (input input' : Option (List ℕ)) (cut : Option Cut) → Reads old mid input input' cut → noted ≡ record mid { latest = latest } → Hears noted heard → IsFed old heard cut
+fed_so old mid noted heard latest input input' cut r is h = λ site ps goes shows.
+    let same = reads_same old mid input input' cut r in
+    fed_by site ps old mid noted heard cut (ap (λ (v : Shown). v.waiting) is) (ap (λ (v : Shown). v.owed) is) same.1 same.2
+    (λ none. h.goes none site ps goes (ap (λ (v : Shown). v.server) is ∙ same.0 ∙ shows)) h.stays h.came (either_end noted.ending)
+
+-- what goes out then changes nothing of it
+pub fed_still : (old heard : Shown) (owed : List ℕ) (active : ℕ) (cut : Option Cut) → IsFed old heard cut → IsFed old (record heard { owed = owed; active = active }) cut
+fed_still old heard owed active cut f = λ site ps goes shows.
+    let g = f site ps goes shows in record { given = g.given; amount = g.amount; bounded = g.bounded }
+
+waits_by : (ending : Option End) (waiting owed : List ℕ) → (is_none ending && nat_lt 0 (length waiting) && nat_le (length owed) 65536) ≡ false → ending ≡ None → length owed ≤ 65536 → waiting ≡ []
+waits_by ending [] owed h none bound = refl
+waits_by (Some e) (b ∷ waiting) owed h none bound = absurd (cc)
+waits_by None (b ∷ waiting) owed h none bound = absurd (grind (arith, nat_tests, h, bound))
+
+-- the server hears all, unless it came to an end or too much is owed
+pub waits_so : (heard new : Shown) (w active : ℕ) → is_heard heard ≡ false → new ≡ record heard { owed = drop w heard.owed; active = active } → w ≤ length heard.owed → new.ending ≡ None → length new.owed + w ≤ 65536 → new.waiting ≡ []
+waits_so heard new w active h is within none bound =
+    ap (λ (v : Shown). v.waiting) is
+    ∙ waits_by heard.ending heard.waiting heard.owed h (ap (λ (v : Shown). v.ending) (sym is) ∙ none) (omega (arith, bound, within, ap (λ (v : Shown). length v.owed) is, length-drop w heard.owed))
+
+-- a connection behind a read, which the steady clock does not change
+pub noted_so : (site : Site) (turns : ℕ) (old mid noted : Shown) (latest : ℕ) (cuts : List Cut) (cut : Option Cut) (n : ℕ) (before between after : Seen) → Standing site turns old cuts n before between → Reads old mid between.input after.input cut →
+    after.output ≡ between.output → after.faults ≡ between.faults → noted ≡ record mid { latest = latest } → Standing site turns noted (cuts_with cut cuts) n before after
+noted_so site turns old mid noted latest cuts cut n before between after s r output faults is =
+    subst (λ (v : Shown). Standing site turns v (cuts_with cut cuts) n before after) (sym is) (read_so site turns old mid cuts cut n before between after s r output faults)

@@ -1,6 +1,6 @@
 -- What the server hears of what waits, piece by piece.
 use Rattle.std.proofs.Common.{arith, ◌≡◌, ℕ, zero, suc, min, ◌+◌, ◌-◌, ◌/◌, ◌<◌, ◌≤◌, ◌==◌, ◌&&◌, nat_lt, nat_le, ℤ, Bool, true, false, if◌then◌else◌, List, [], ◌∷◌, ◌++◌, length, take, drop, Option, Some, None, is_none, refl, sym, ap, ap₂, subst, ◌∙◌, ◌⊎◌, inl, inr, length-append, append_assoc, append-nil}
-use Rattle.std.proofs.lemmas.Bool.{and_true, cases_lt}
+use Rattle.std.proofs.lemmas.Bool.{cases_lt}
 use Rattle.std.proofs.lemmas.Bool.Decides.{nat_tests}
 use Rattle.std.proofs.Math.Nat.{min-eq_left}
 use Rattle.std.proofs.lemmas.List.{take-append-drop, drop-append-le, length-take-le, length-drop}
@@ -9,16 +9,20 @@ use Rattle.ua_service.specs.declared.request.Request.{Request}
 use Rattle.ua_conn.specs.server.Site.{Site}
 use Rattle.ua_conn.specs.server.Replies.{reply_bytes, end_of}
 use Rattle.ua_conn.specs.server.Held.{held, stop, GoesOn}
-use Rattle.ua_conn.specs.server.Feeding.{Shown as Server, Feeds, BeginsNoFrame, left_of}
+use Rattle.ua_conn.specs.server.Feeding.{Shown as Server, Feeds, FeedsAll, BeginsNoFrame, left_of}
 use Rattle.ua_conn.specs.declared.outcome.End.{End}
 use Rattle.ua_link.specs.Reads.{piece_at}
 use Rattle.ua_link.specs.Turns.{more}
 use Rattle.ua_link.specs.Fronts.{IsFront, OneAtMost, wanted}
 use Rattle.ua_link.specs.Connections.{Shown, SameStream, behind, IsBounded, Takes, TakesAll, Hears, ending_with, begun_at, is_heard}
 use Rattle.ua_link.proofs.StreamLemmas.{same, both, behind_same, behind_parted, more_bytes, no_more}
-use Rattle.ua_link.proofs.FrontLemmas.{one_at_most}
+use Rattle.ua_link.proofs.FrontLemmas.{one_at_most, left_or_all, wanted_short, wanted_long}
 
 -- ---- which connection is heard
+
+pub and_true : (a b : Bool) → (a && b) ≡ true → (a ≡ true) × (b ≡ true)
+and_true true b h = (refl, h)
+and_true false b h = absurd (cc)
 
 pub no_end : (o : Option End) → is_none o ≡ true → o ≡ None
 no_end None h = refl
@@ -28,14 +32,20 @@ pub an_end : (o : Option End) → is_none o ≡ false → o ≡ None → ⊥
 an_end None h none = absurd (cc)
 an_end (Some e) h none = absurd (cc)
 
+parts_of : (c : Shown) → is_heard c ≡ true → (is_none c.ending ≡ true) × (nat_lt 0 (length c.waiting) ≡ true) × (nat_le (length c.owed) 65536 ≡ true)
+parts_of c h =
+    let t = and_true (is_none c.ending && nat_lt 0 (length c.waiting)) (nat_le (length c.owed) 65536) h in
+    let u = and_true (is_none c.ending) (nat_lt 0 (length c.waiting)) t.0 in
+    (u.0, u.1, t.1)
+
 pub heard_open : (c : Shown) → is_heard c ≡ true → c.ending ≡ None
-heard_open c h = no_end c.ending (and_true (is_none c.ending) _ h).0
+heard_open c h = no_end c.ending (parts_of c h).0
 
 pub heard_some : (c : Shown) → is_heard c ≡ true → 0 < length c.waiting
-heard_some c h = let t = (and_true (nat_lt 0 (length c.waiting)) _ (and_true (is_none c.ending) _ h).1).0 in grind (arith, nat_tests, t)
+heard_some c h = let t = (parts_of c h).1 in grind (arith, nat_tests, t)
 
 pub heard_bound : (c : Shown) → is_heard c ≡ true → length c.owed ≤ 65536
-heard_bound c h = let t = (and_true (nat_lt 0 (length c.waiting)) _ (and_true (is_none c.ending) _ h).1).1 in grind (arith, nat_tests, t)
+heard_bound c h = let t = (parts_of c h).2 in grind (arith, nat_tests, t)
 
 -- ---- the end that what was heard brings
 
@@ -131,7 +141,7 @@ taken_both site ps a b c t goes stays came left (inl none) =
     takes_more site ps a b c t (goes none site t.heard g (t.shows g)) came left
 taken_both site ps a b c t goes stays came left (inr ended) = subst (λ (v : Shown). Takes site ps a v) (sym (stays ended.0 ended.1)) t
 
-either_end : (o : Option End) → (o ≡ None) ⊎ ((e : End) × (o ≡ Some e))
+pub either_end : (o : Option End) → (o ≡ None) ⊎ ((e : End) × (o ≡ Some e))
 either_end None = inl refl
 either_end (Some e) = inr (e, refl)
 
@@ -249,3 +259,71 @@ took site ps old new piece out out' said said' asked came server f some waited o
   shows = λ goes. is ∙ f.shows (f.came_is ∙ goes);
   bounded = λ many. bounded_by site ps old.came piece (length old.owed) one bound;
 }
+
+fed_of : (site : Site) (ps : List Piece) (server : Server) (x : Piece) (out out' : List ℕ) (asked : List Request) (came : Option End) (new : Server) → FeedsAll server x out out' asked came new → GoesOn site ps →
+    server ≡ record { site = site; held = held site ps; failed = false } → Feeds site ps x out out' asked came new
+fed_of site ps server x out out' asked came new all goes shows =
+    let h = subst (λ (v : Server). FeedsAll v x out out' asked came new) shows all in h ps goes refl
+
+-- whatever it heard before
+pub took_all : (old new : Shown) (piece : List ℕ) (header : List ℕ) (got missing out out' : ℕ) (said said' : List ℕ) (asked : List Request) (came : Option End) (server : Server) →
+    FeedsAll old.server (piece_at old.came piece) said said' asked came server → IsFront header got missing old.server.held.rest → length piece ≤ wanted got missing → 0 < length piece → old.waiting ≡ piece ++ new.waiting → length old.owed ≤ 65536 →
+    old.owed ≡ drop out said → out + out ≤ length said → out' ≡ min out (length said' / 2) → new.owed ≡ drop out' said' → new.server ≡ server → new.ending ≡ ending_with new.waiting old.left came → TakesAll old new
+took_all old new piece header got missing out out' said said' asked came server all front most some waited bound was within least owes is ends = λ site ps goes shows.
+    took site ps old new piece out out' said said' asked came server (fed_of site ps old.server (piece_at old.came piece) said said' asked came server all goes shows) some waited
+    (subst (λ (v : Server). OneAtMost v.held.rest piece) shows (one_at_most header got missing old.server.held.rest piece front most)) bound was within least owes is ends
+
+-- how much of a frame is there then, and since when
+grown_so : (r : List ℕ) (piece rest : List ℕ) (header : List ℕ) (got missing given : ℕ) → IsFront header got missing r → length piece ≤ wanted got missing → given ≡ length piece → rest ≡ left_of (r ++ piece) → given < length rest →
+    length rest ≡ length r + given
+grown_so r piece rest header got missing given front most is left less = by (left_or_all header got missing r piece front most)
+  where
+    by : (left_of (r ++ piece) ≡ []) ⊎ (BeginsNoFrame (r ++ piece) × (left_of (r ++ piece) ≡ r ++ piece)) → length rest ≡ length r + given
+    by (inl none) = absurd (omega (arith, less, ap length left, ap length none))
+    by (inr all) = omega (arith, ap length left, ap length all.1, length-append r piece, is)
+
+begun_so : (r : List ℕ) (piece rest : List ℕ) (header : List ℕ) (got missing given now frame frame' : ℕ) → IsFront header got missing r → length piece ≤ wanted got missing → given ≡ length piece → rest ≡ left_of (r ++ piece) → 0 < length rest →
+    frame' ≡ (if nat_lt 0 (length r) then frame else now) → frame' ≡ begun_at (length rest) given now frame
+begun_so r piece rest header got missing given now frame frame' front most is left some e = by (left_or_all header got missing r piece front most) (cases_lt 0 (length r))
+  where
+    by : (left_of (r ++ piece) ≡ []) ⊎ (BeginsNoFrame (r ++ piece) × (left_of (r ++ piece) ≡ r ++ piece)) → (0 < length r) ⊎ (length r ≤ 0) → frame' ≡ begun_at (length rest) given now frame
+    by (inl none) b = absurd (omega (arith, some, ap length left, ap length none))
+    by (inr all) (inl part) =
+        let longer : given < length rest = omega (arith, ap length left, ap length all.1, length-append r piece, is, part) in
+        grind (arith, nat_tests, e, part, longer)
+    by (inr all) (inr whole) =
+        let as_long : length rest ≤ given = omega (arith, ap length left, ap length all.1, length-append r piece, is, whole) in
+        grind (arith, nat_tests, e, whole, as_long)
+
+pub front_heard : (old new : Shown) (piece : List ℕ) (header : List ℕ) (got missing : ℕ) (came : Option End) → old.ending ≡ None → IsFront header got missing old.server.held.rest → length piece ≤ wanted got missing → old.waiting ≡ piece ++ new.waiting →
+    new.ending ≡ ending_with new.waiting old.left came → (came ≡ None → new.server.held.rest ≡ left_of (old.server.held.rest ++ piece)) → new.frame ≡ (if nat_lt 0 (length old.server.held.rest) then old.frame else old.latest) → TakesAll old new →
+    new.came ≡ old.came → new.left ≡ old.left → new.begun ≡ old.begun → new.latest ≡ old.latest → new.active ≡ old.active → Hears old new
+front_heard old new piece header got missing came none front most waited ends left frame all same_came same_left same_begun same_latest same_active = record {
+  goes = λ e. all;
+  stays = λ e is. absurd (let r = sym none ∙ is in cc);
+  came = same_came;
+  left = same_left;
+  begun = same_begun;
+  latest = same_latest;
+  active = same_active;
+  grown = λ on less. grown_so old.server.held.rest piece new.server.held.rest header got missing (length old.waiting - length new.waiting) front most given (left (goes_with new.waiting old.left came (sym ends ∙ on))) less;
+  frame = λ on some. begun_so old.server.held.rest piece new.server.held.rest header got missing (length old.waiting - length new.waiting) old.latest old.frame new.frame front most given
+      (left (goes_with new.waiting old.left came (sym ends ∙ on))) some frame;
+}
+  where
+    given : length old.waiting - length new.waiting ≡ length piece
+    given = omega (arith, ap length waited, length-append piece new.waiting)
+
+-- what is cut off the front of what waits
+pub front_cut : (w piece rest : List ℕ) (n m k : ℕ) → piece ≡ take n w → rest ≡ drop n w → n ≡ min m k → k ≡ length w → (w ≡ piece ++ rest) × (length piece ≤ m) × (0 < m → 0 < k → 0 < length piece)
+front_cut w piece rest n m k is left least len =
+    let within : n ≤ length w = omega (arith, least, len) in
+    let long : length piece ≡ n = ap length is ∙ length-take-le n w within in
+    (sym (take-append-drop n w) ∙ ap₂ (λ (a b : List ℕ). a ++ b) (sym is) (sym left), omega (arith, long, least), λ some more. omega (arith, long, least, some, more))
+
+pub some_wanted : (got missing : ℕ) → 0 < wanted got missing
+some_wanted got missing = by (cases_lt got 8)
+  where
+    by : (got < 8) ⊎ (8 ≤ got) → 0 < wanted got missing
+    by (inl less) = omega (arith, less, wanted_short got missing less)
+    by (inr more) = omega (arith, wanted_long got missing more)

@@ -58,7 +58,7 @@ ending_at_read (suc n) rest = None
 abbrev pub Reads : Shown → Shown → Option (List ℕ) → Option (List ℕ) → Option Cut → Type 0
 Reads old new input input' None = (new ≡ old) × Keeps input input' × (is_read old ≡ false → input' ≡ input)
 Reads old new input input' (Some cut) =
-    (old.ending ≡ None) × (old.waiting ≡ []) × (length new.waiting ≡ cut.1) × (cut.1 ≤ 4096) × Consumes input input' new.waiting × (cut.1 ≡ 0 → IsAtEnd input')
+    (is_read old ≡ true) × (length new.waiting ≡ cut.1) × (cut.1 ≤ 4096) × Consumes input input' new.waiting × (cut.1 ≡ 0 → IsAtEnd input')
     × (new ≡ record old { waiting = new.waiting; came = cut.0; left = old.left - 1; ending = ending_at_read cut.1 old.server.held.rest })
 
 -- ---- what the server hears

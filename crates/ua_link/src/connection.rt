@@ -236,7 +236,8 @@ impl<'a> ServerConnection<'a> {
 
     /// Keeps the steady moment, unless it goes back.
     fn note(&mut self, moment: i64)
-        ensures { self.new ≡ record self.old { latest = max self.old.latest (moment_of moment) } }
+        ensures noted { self.new ≡ record self.old { latest = max self.old.latest (moment_of moment) } }
+        ensures left { self.new.ending ≡ None → self.new.waiting ≡ [] → 0 < self.new.left }
     {
         self.latest = later(self.latest, moment);
     }

@@ -1,6 +1,6 @@
 //! What the server hears of what was read.
 
-ghost use Rattle.std.specs.Prelude.{◌≡◌, ◌<◌, ◌≤◌, ◌++◌, ℕ, List, true, false, length, None, nat_lt, OnOk, if◌then◌else◌};
+ghost use Rattle.std.specs.Prelude.{◌≡◌, ◌<◌, ◌≤◌, ◌++◌, ℕ, List, true, false, [], length, None, nat_lt, OnOk, if◌then◌else◌};
 ghost use Rattle.ua_conn.specs.server.Feeding.{left_of};
 ghost use Rattle.ua_link.specs.Fronts.{IsFront, wanted};
 ghost use Rattle.ua_link.specs.Connections.{Hears, is_heard, ending_with};
@@ -49,6 +49,7 @@ impl<'a> ServerConnection<'a> {
 
     /// The server hears what waits, frame by frame, as long as not too much is owed.
     pub(super) fn hear(&mut self) -> Result<(), NoMemory>
+        requires left { self.old.ending ≡ None → self.old.waiting ≡ [] → 0 < self.old.left }
         ensures hears { OnOk result (Hears self.old self.new) }
         ensures enough { OnOk result (is_heard self.new ≡ false) }
         ensures latest { self.new.latest ≡ self.old.latest }
