@@ -1,3 +1,4 @@
+pub mod LingerLemmas
 pub mod PlaceLemmas
 pub mod StepLemmas
 pub mod WaitLemmas

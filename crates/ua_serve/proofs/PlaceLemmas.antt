@@ -1,5 +1,8 @@
--- A list in which one entry is another.
-use Rattle.std.proofs.Common.{◌≡◌, ◌≢◌, ◌⊎◌, inl, inr, ℕ, zero, suc, List, [], ◌∷◌, Some, None, replicate, unwrap_or, slice_get, slice_set, refl, sym, ap}
+-- A list in which one entry is another, and what has a place.
+use Rattle.std.proofs.Common.{arith, ◌≡◌, ◌≢◌, ◌⊎◌, inl, inr, ℕ, zero, suc, ◌≤◌, List, [], ◌∷◌, Some, replicate, unwrap_or, slice_get, slice_set, refl, sym, ap, ◌∙◌}
+use Rattle.ua_serve.specs.declared.place.Place.{Place}
+use Rattle.ua_serve.specs.declared.place.Seat.{Seat}
+use Rattle.ua_serve.specs.declared.place.Seat.TheVariants.{Free, Taken, Lingering}
 
 module _ {A : Type 0} where
   -- An entry of it is the new one, or was there before.
@@ -25,7 +28,23 @@ module _ {A : Type 0} where
   set_same (x ∷ xs) (suc i) v e = ap (λ ys. x ∷ ys) (set_same xs i v e)
 
 -- where all places are free no connection has one
-pub none_placed : {A : Type 0} (n k : ℕ) (p : A) → slice_get (replicate n None) k ≡ Some (Some p) → ⊥
+pub none_placed : {L : Type 0} (n k : ℕ) (p : Place L) → (let free : Seat L = Free in slice_get (replicate n free) k ≡ Some (Taken p)) → ⊥
 none_placed zero k p e = cc
 none_placed (suc n) zero p e = cc
 none_placed (suc n) (suc k) p e = none_placed n k p e
+
+-- the connection that has a place
+abbrev place_in : {L : Type 0} → Seat L → Place L → Place L
+place_in Free p = p
+place_in (Taken q) p = q
+place_in (Lingering l) p = p
+
+pub one_place : {L : Type 0} (p q : Place L) → Taken p ≡ Taken q → p ≡ q
+one_place p q e = ap (λ s. place_in s p) e
+
+-- as many free places as were asked for
+pub all_free : {L : Type 0} (n k : ℕ) (places : List (Seat L)) → (let free : Seat L = Free in places ≡ replicate k free) → n ≤ k → k ≤ n → (let free : Seat L = Free in places ≡ replicate n free)
+all_free {L} n k places e a b =
+    let free : Seat L = Free in
+    let same : k ≡ n = omega (arith, a, b) in
+    e ∙ ap (λ m. replicate m free) same

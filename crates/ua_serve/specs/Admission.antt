@@ -1,5 +1,5 @@
 -- Who is accepted, and when.
-use Rattle.std.specs.Prelude.{◌≡◌, ℕ, ◌+◌, ◌-◌, ◌^◌, ◌==◌, ◌&&◌, ℤ, pos, negsuc, ◌+ℤ◌, ◌-ℤ◌, min, Bool, true, false, nat_lt, nat_le, if◌then◌else◌, List, [], ◌∷◌, length, Option, Some, None, slice_set}
+use Rattle.std.specs.Prelude.{◌≡◌, ℕ, ◌+◌, ◌-◌, ◌^◌, ◌==◌, ◌&&◌, ℤ, pos, negsuc, ◌+ℤ◌, ◌-ℤ◌, min, Bool, true, false, nat_lt, nat_le, if◌then◌else◌, List, [], ◌∷◌, length, Option, None, slice_set}
 use Rattle.std.specs.Int.{w64, saturate_signed}
 use Rattle.ua_disco.specs.Configuration.{Configuration}
 use Rattle.ua_frame.specs.Streams.{moment_of}
@@ -13,7 +13,9 @@ use Rattle.ua_link.specs.declared.connection.Over.TheVariants.{Ended}
 use Rattle.ua_serve.specs.declared.place.Place.{Place}
 use Rattle.ua_serve.specs.declared.place.Step.{Step}
 use Rattle.ua_serve.specs.declared.place.Step.TheVariants.{Quiet, Parted, NotAccepted, Failed}
+use Rattle.ua_serve.specs.declared.place.Seat.TheVariants.{Taken}
 use Rattle.ua_serve.specs.Places.{Crowd, is_ready}
+use Rattle.ua_serve.specs.Looks.{IsNoted, Look, a_link, nobody_there, no_socket, a_failure}
 
 -- ticks that are no more than half a second, and 0 for others
 abbrev pub ticks_of : ℤ → ℕ
@@ -36,14 +38,18 @@ can_accept c = may_accept c && (pause_left c == 0)
 abbrev pub with_one : {L : Type 0} → Crowd L → Crowd L
 with_one c = record c { left = c.left - 1; last = c.last + 1; in_a_row = 0 }
 
--- behind one failure more: nobody is accepted for half a second
+-- a pause: nobody is accepted for half a second
+abbrev pub with_pause : {L : Type 0} → Crowd L → Crowd L
+with_pause c = record c { shut = saturate_signed w64 (c.moment +ℤ pos 5000000) }
+
+-- behind one failure more, which a pause follows
 abbrev pub with_failure : {L : Type 0} → Crowd L → Crowd L
 with_failure c = record c { failed = min (c.failed + 1) (2 ^ 64 - 1); in_a_row = min (c.in_a_row + 1) (2 ^ 32 - 1); shut = saturate_signed w64 (c.moment +ℤ pos 5000000) }
 
 -- a connection that begins at a moment, which was told nothing and owes nothing
 abbrev pub new_connection : Configuration → ℕ → ℤ → Shown
 new_connection settings id now = let site : Site = record { settings = settings; channel = id } in
-    record { server = record { site = site; held = held site []; failed = false }; owed = []; ending = None; left = 65536; latest = moment_of now; active = moment_of now }
+    record { server = record { site = site; held = held site []; failed = false }; waiting = []; came = pos 0; owed = []; ending = None; left = 65536; begun = moment_of now; latest = moment_of now; active = moment_of now; frame = moment_of now }
 
 -- its place
 abbrev pub new_place : {L : Type 0} → Crowd L → L → ℤ → Place L
@@ -54,11 +60,11 @@ abbrev pub IsFresh : {L : Type 0} → Crowd L → ℤ → Type 0
 IsFresh c now = (s : Seen) → Standing (record { settings = c.settings; channel = c.last + 1 }) 65536 (new_connection c.settings (c.last + 1) now) [] 0 s s
 
 abbrev pub with_place : {L : Type 0} → Crowd L → ℕ → Place L → Crowd L
-with_place c place p = record c { places = slice_set c.places place (Some p); ready = slice_set c.ready place true }
+with_place c place p = record c { places = slice_set c.places place (Taken p); ready = slice_set c.ready place true }
 
 -- what is told of a failure: how many there were, and the hundredth in a row ends all
-abbrev pub failure : {L : Type 0} → Crowd L → Step
-failure c = if nat_lt c.in_a_row 100 then NotAccepted c.failed else Failed
+abbrev pub told_failure : {L : Type 0} → Crowd L → Step
+told_failure c = if nat_lt c.in_a_row 100 then NotAccepted c.failed else Failed
 
 -- What the next connection came to: it gets the place, or there is no memory for it, which ends it alone.
 abbrev pub Begins : {L : Type 0} → Crowd L → Crowd L → L → ℤ → ℕ → Step → Type 0
@@ -67,13 +73,18 @@ Begins old new link now place (Parted parted) = (new ≡ with_one old) × (parte
 Begins old new link now place (NotAccepted n) = ⊥
 Begins old new link now place Failed = ⊥
 
--- What a free place came to.
-pub data Admits {L : Type 0} (asked asked' : Option (List ℤ)) (old new : Crowd L) (place : ℕ) (step : Step) : Type 0 where
-  -- nobody is accepted now
-  shut : can_accept old ≡ false → asked' ≡ asked → new ≡ old → step ≡ Quiet → Admits asked asked' old new place step
+-- What a free place came to, by what came of looking for the next connection.
+pub data Admits {L : Type 0} (asked asked' timed timed' : Option (List ℤ)) (sought sought' : Option (List Look)) (old new : Crowd L) (place : ℕ) (step : Step) : Type 0 where
+  -- nobody is accepted now, and nobody looked for
+  shut : can_accept old ≡ false → asked' ≡ asked → timed' ≡ timed → sought' ≡ sought → new ≡ old → step ≡ Quiet → Admits asked asked' timed timed' sought sought' old new place step
   -- nobody waits
-  nobody : can_accept old ≡ true → asked' ≡ asked → new ≡ record old { ready = slice_set old.ready (length old.places) false } → step ≡ Quiet → Admits asked asked' old new place step
+  nobody : can_accept old ≡ true → asked' ≡ asked → timed' ≡ timed → IsNoted sought sought' (place, nobody_there) → new ≡ record old { ready = slice_set old.ready (length old.places) false } → step ≡ Quiet →
+      Admits asked asked' timed timed' sought sought' old new place step
+  -- The system has no socket to give: that is no failure of the listener, and is tried again after a pause.
+  wanting : can_accept old ≡ true → asked' ≡ asked → timed' ≡ timed → IsNoted sought sought' (place, no_socket) → new ≡ with_pause old → step ≡ Quiet → Admits asked asked' timed timed' sought sought' old new place step
   -- accepting failed
-  failed : can_accept old ≡ true → asked' ≡ asked → new ≡ with_failure old → step ≡ failure (with_failure old) → Admits asked asked' old new place step
+  failed : can_accept old ≡ true → asked' ≡ asked → timed' ≡ timed → IsNoted sought sought' (place, a_failure) → new ≡ with_failure old → step ≡ told_failure (with_failure old) →
+      Admits asked asked' timed timed' sought sought' old new place step
   -- the next connection was accepted
-  begun : can_accept old ≡ true → (link : L) (now : ℤ) → Answered asked asked' (now ∷ []) → Begins old new link now place step → Admits asked asked' old new place step
+  begun : can_accept old ≡ true → IsNoted sought sought' (place, a_link) → asked' ≡ asked → (l : L) (now : ℤ) → Answered timed timed' (now ∷ []) → Begins old new l now place step →
+      Admits asked asked' timed timed' sought sought' old new place step

@@ -1,14 +1,16 @@
 -- The places of the connections that a server has at once, as contracts see them.
-use Rattle.std.specs.Prelude.{◌≡◌, ℕ, ◌<◌, ◌≤◌, ℤ, Bool, false, List, Option, Some, slice_get, unwrap_or}
+use Rattle.std.specs.Prelude.{◌≡◌, ℕ, ◌<◌, ◌≤◌, ℤ, Bool, false, List, Some, slice_get, unwrap_or}
 use Rattle.ua_disco.specs.Configuration.{Configuration}
 use Rattle.ua_serve.specs.declared.place.Place.{Place}
+use Rattle.ua_serve.specs.declared.place.Seat.{Seat}
+use Rattle.ua_serve.specs.declared.place.Seat.TheVariants.{Taken}
 
 -- what contracts see of the connections
 pub record Crowd (L : Type 0) : Type 0 where
   -- those by which they are served
   pub settings : Configuration
-  -- the places: those that are free, and the connections at the others
-  pub places : List (Option (Place L))
+  -- the places: those that are free, and at the others connections, or links of such as are over
+  pub places : List (Seat L)
   -- which of them may do something, and behind them whether somebody may wait in the listener
   pub ready : List Bool
   -- the ticks for which a client may be quiet
@@ -29,7 +31,7 @@ is_ready ready place = unwrap_or (slice_get ready place) false
 
 -- this connection has this place
 abbrev pub HasPlace : {L : Type 0} → Crowd L → ℕ → Place L → Type 0
-HasPlace c k p = slice_get c.places k ≡ Some (Some p)
+HasPlace c k p = slice_get c.places k ≡ Some (Taken p)
 
 -- all ids are of connections that were accepted, and no two connections have the same
 pub record AreNumbered {L : Type 0} (c : Crowd L) : Type 0 where

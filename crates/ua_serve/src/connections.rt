@@ -1,15 +1,18 @@
 //! The connections of a server that has several at once, each with a place.
 
-ghost use Rattle.std.specs.Prelude.{◌≡◌, ◌≢◌, ◌+◌, ◌<◌, ◌↔◌, ◌⊎◌, ℕ, pos, length, replicate, None, Some, true, false, slice_get, slice_set, IsTrue, All, IfOk};
+ghost use Rattle.std.specs.Prelude.{◌≡◌, ◌≢◌, ◌+◌, ◌<◌, ◌↔◌, ℕ, ℤ, pos, List, length, replicate, Option, None, Some, true, false, slice_get, slice_set, IsTrue, All, IfOk};
+ghost use Rattle.ua_serve.specs.declared.lingering.LingeringLink.{LingeringLink};
 ghost use Rattle.ua_serve.specs.declared.place.Place.{Place};
+ghost use Rattle.ua_serve.specs.declared.place.Seat.{Seat};
 ghost use Rattle.ua_serve.specs.Places.{is_ready, HasPlace, AreNumbered};
 ghost use Rattle.ua_serve.specs.Turn.{seen_by};
-ghost use Rattle.ua_serve.specs.Admission.{Admits, Begins, pause_left, may_accept, can_accept, with_one, with_failure, failure};
-ghost use Rattle.ua_serve.specs.Steps.{seeks, Steps, GoesOn, AllStand, IsTold};
-ghost use Rattle.ua_serve.specs.Waits.{IsNoted, IsWithin, due_in, IsSoonest, Waits};
+ghost use Rattle.ua_serve.specs.Admission.{Admits, Begins, pause_left, may_accept, can_accept, with_one, with_pause, with_failure, told_failure};
+ghost use Rattle.ua_serve.specs.Steps.{seeks, Steps, GoesOn, Fades, AllStand, IsTold};
+ghost use Rattle.ua_serve.specs.Waits.{due_in, IsSoonest, Waits};
 
-use crate::place::{Parted, Place, Step, is_due, turn_at};
+use crate::place::{Parted, Place, Seat, Step, are_free, is_due, linger_at, turn_at};
 use crate::sockets::{Accepted, Sockets};
+use crate::soonest::sooner;
 use std::alloc::Global;
 use std::marker::Model;
 use ua_conn::End;
@@ -27,24 +30,24 @@ const PAUSE: i64 = 5_000_000;
 /// How often in a row accepting may fail.
 const MOST_FAILURES: u32 = 100;
 
-/// The connections of a server that has several at once. Each has one of so many places, and its link; where all are
-/// taken, the next connection waits in the listener.
+/// The connections of a server that has several at once. Each has one of so many places, and its link, which may keep that
+/// a while longer; where none is free, the next connection waits in the listener.
 #[derive(Drop)]
 pub struct Connections<'a, L> {
     alloc: Global,
     settings: &'a Settings,
-    places: Vec<Option<Place<'a, L>>>,
+    places: Vec<Seat<'a, L>>,
     /// Which places may do something, and behind them whether somebody may wait in the listener.
     ready: Vec<bool>,
-    /// The ticks for which a client may be quiet.
+    /// The ticks for which there is patience with a client that is quiet.
     patience: u64,
     /// How many connections are still to be accepted.
     left: u32,
     /// The id of the last one that began.
     last: u32,
-    /// The moment of the last wait.
+    /// The steady moment of the last wait.
     moment: i64,
-    /// The moment until which nobody is accepted.
+    /// The one until which nobody is accepted.
     shut: i64,
     /// How often accepting failed, and how often since it last did not.
     failed: u64,
@@ -73,31 +76,9 @@ impl<'a, L> Model for Connections<'a, L> {
     ghost invariant = { λ c. (length c.ready.items ≡ length c.places.items + 1) × (c.last + c.left < 2 ^ 32) };
 }
 
-/// Whether all these places are free.
-fn are_free<L>(places: &[Option<Place<L>>]) -> bool
-    ensures { IsTrue result ↔ All (λ place. place ≡ None) places.now }
-{
-    places.iter().all(|place| place.is_none())
-}
-
-/// The lesser of two numbers of ticks, where none is no limit.
-fn sooner(first: Option<u64>, second: Option<u64>) -> Option<u64>
-    ensures first { (n : ℕ) → IsWithin first n → IsWithin result n }
-    ensures second { (n : ℕ) → second ≡ Some n → IsWithin result n }
-    ensures one { (n : ℕ) → result ≡ Some n → (first ≡ Some n) ⊎ (second ≡ Some n) }
-{
-    match first {
-        None => second,
-        Some(n) => match second {
-            None => Some(n),
-            Some(m) => Some(n.min(m)),
-        },
-    }
-}
-
 impl<'a, L: ReadyLink + Drop> Connections<'a, L> {
-    /// None yet, of `wanted` that are to be served by these settings, `at_once` of them at most at one time, and none for
-    /// longer than `patience` ticks of 100 ns in which no byte comes or goes. Their channels have the ids from 1 on.
+    /// None yet, of `wanted` that are to be served by these settings, `at_once` of them at most at one time, each with a
+    /// patience of so many ticks of 100 ns ([`ServerConnection::turn`]). Their channels have the ids from 1 on.
     ///
     /// # Errors
     ///
@@ -109,7 +90,7 @@ impl<'a, L: ReadyLink + Drop> Connections<'a, L> {
         at_once: u32,
         patience: u64,
     ) -> Result<Connections<'a, L>, NoMemory>
-        ensures new { IfOk result (λ c. c ≡ record { settings = settings.now; places = replicate at_once None; ready = replicate (at_once + 1) true; patience = patience; left = wanted; last = 0; moment = pos 0; shut = pos 0; failed = 0; in_a_row = 0 }) }
+        ensures new { IfOk result (λ c. c ≡ record { settings = settings.now; places = replicate at_once Seat.Free; ready = replicate (at_once + 1) true; patience = patience; left = wanted; last = 0; moment = pos 0; shut = pos 0; failed = 0; in_a_row = 0 }) }
         ensures stand { IfOk result (λ c. AllStand (seen_by L.input L.output L.fault_count) c) }
         ensures numbered { IfOk result AreNumbered }
     {
@@ -117,7 +98,7 @@ impl<'a, L: ReadyLink + Drop> Connections<'a, L> {
         let ready = Vec::from_elem(alloc, true, at_once + 1)?;
         let mut places = Vec::new(alloc);
         'places: for _ in 0..at_once {
-            places.push(None)?;
+            places.push(Seat::Free)?;
         }
         Ok(Connections {
             alloc,
@@ -141,9 +122,9 @@ impl<'a, L: ReadyLink + Drop> Connections<'a, L> {
         self.places.len()
     }
 
-    /// Whether all connections were served.
+    /// Whether all connections were served, and no link of them lingers.
     pub fn is_done(&self) -> bool
-        ensures { IsTrue result ↔ ((self.now.left ≡ 0) × All (λ place. place ≡ None) self.now.places) }
+        ensures { IsTrue result ↔ ((self.now.left ≡ 0) × All (λ seat. seat ≡ Seat.Free) self.now.places) }
     {
         self.left == 0 && are_free(&self.places)
     }
@@ -191,10 +172,11 @@ impl<'a, L: ReadyLink + Drop> Connections<'a, L> {
         ensures { result ≡ due_in self.now place }
     {
         match self.places.get(place) {
-            Some(Some(_)) if self.is_ready(place) => Some(0),
-            Some(Some(taken)) => Some(taken.patience_left(self.moment, self.patience)),
-            Some(None) if self.may_accept() => Some(self.shut_for()),
-            _ => None,
+            Some(Seat::Free) if self.may_accept() => Some(self.shut_for()),
+            Some(Seat::Free) | None => None,
+            Some(_) if self.is_ready(place) => Some(0),
+            Some(Seat::Taken(taken)) => Some(taken.patience_left(self.moment, self.patience)),
+            Some(Seat::Lingering(link)) => Some(link.left(self.moment)),
         }
     }
 
@@ -209,24 +191,24 @@ impl<'a, L: ReadyLink + Drop> Connections<'a, L> {
         least
     }
 
-    /// Waits until something is ready, or some client was quiet for too long, or the pause is over in which nobody is
-    /// accepted. No place changes.
+    /// Waits until something is ready, or patience with some client is at its end, or some link lingered for its second, or the
+    /// pause is over in which nobody is accepted. All of this goes by the steady clock `timer`. No place changes.
     ///
     /// # Errors
     ///
     /// `LinkFault` where nothing can be waited for.
-    pub fn wait<S: Sockets, C: Clock>(
+    pub fn wait<S: Sockets, T: Clock>(
         &mut self,
         sockets: &mut S,
-        clock: &mut C,
+        timer: &mut T,
     ) -> Result<(), LinkFault>
         ensures sought { S.sought sockets.new ≡ S.sought sockets.old }
-        ensures waits { Waits (C.answered clock.old) (C.answered clock.new) (S.waited sockets.old) (S.waited sockets.new) self.old self.new }
+        ensures waits { Waits (T.answered timer.old) (T.answered timer.new) (S.waited sockets.old) (S.waited sockets.new) self.old self.new }
     {
-        self.moment = clock.now();
+        self.moment = timer.now();
         let at_most = self.longest_wait();
         let waited = sockets.wait(at_most, &mut self.ready);
-        self.moment = clock.now();
+        self.moment = timer.now();
         waited
     }
 
@@ -234,58 +216,64 @@ impl<'a, L: ReadyLink + Drop> Connections<'a, L> {
     ///
     /// Where it is free, somebody is still to be accepted and may wait in the listener, and no pause is kept, the next
     /// connection that waits takes it: its id is one more than that of the last one. Where it is taken, the connection has a
-    /// turn over its own link, if that is ready or its client was quiet for too long. It keeps its place, or is over: then
+    /// turn over its own link, if that is ready or patience with its client is at its end; `clock` says the moments of its
+    /// protocol, and the steady clock `timer` those by which patience goes. It keeps its place, or is over: then
     /// the place is free, and what is told of it is its id, how it is over and how many bytes came and went. Of each
     /// connection that has a place what went out is a beginning of the reply to what came, each read at its moment, and so
     /// it is of one that is over; a link that failed 2^64 - 1 times before is given up, with no turn. Without memory for it a
     /// connection is over before it begins, and no other one is. Behind a failure to accept nobody is accepted for half a
-    /// second; the hundredth in a row is told as `Failed`. OPC 10000-6, 6.7 and 7.1.
-    pub fn step<S: Sockets<Link = L>, C: Clock>(
+    /// second; the hundredth in a row is told as `Failed`. Nobody is either where the system has no socket to give, which is
+    /// no failure, and ends nothing.
+    ///
+    /// The link of one that was closed or refused, or had all its turns, keeps the place a while longer: nothing is written
+    /// over it any more, and what comes is dropped, in one read a step where it is ready, until its input ends, a read fails,
+    /// 64 KiB came or a second has gone by. OPC 10000-6, 6.7 and 7.1.
+    pub fn step<S: Sockets<Link = L>, C: Clock, T: Clock>(
         &mut self,
         sockets: &mut S,
         clock: &mut C,
+        timer: &mut T,
         place: usize,
     ) -> Step
-        ensures steps { Steps (seen_by L.input L.output L.fault_count) (C.answered clock.old) (C.answered clock.new) self.old self.new place result }
+        ensures steps { Steps (seen_by L.input L.output L.fault_count) L.tried (C.answered clock.old) (C.answered clock.new) (T.answered timer.old) (T.answered timer.new) (S.sought sockets.old) (S.sought sockets.new) self.old self.new place result }
         ensures others { (k : ℕ) → k ≢ place → slice_get self.new.places k ≡ slice_get self.old.places k }
         ensures stand { AllStand (seen_by L.input L.output L.fault_count) self.old → AllStand (seen_by L.input L.output L.fault_count) self.new }
         ensures told { AllStand (seen_by L.input L.output L.fault_count) self.old → IsTold (seen_by L.input L.output L.fault_count) self.old place result }
         ensures numbered { AreNumbered self.old → AreNumbered self.new }
-        ensures seeks { seeks self.old place ≡ true → IsNoted (S.sought sockets.old) (S.sought sockets.new) place }
         ensures looks_away { seeks self.old place ≡ false → S.sought sockets.new ≡ S.sought sockets.old }
         ensures waited { S.waited sockets.new ≡ S.waited sockets.old }
     {
-        self.step_at(sockets, clock, place)
+        self.step_at(sockets, clock, timer, place)
     }
 
     /// Gives the place with this number that step, of which `step` says what it makes of all places.
-    fn step_at<S: Sockets<Link = L>, C: Clock>(
+    fn step_at<S: Sockets<Link = L>, C: Clock, T: Clock>(
         &mut self,
         sockets: &mut S,
         clock: &mut C,
+        timer: &mut T,
         place: usize,
     ) -> Step
-        ensures steps { Steps (seen_by L.input L.output L.fault_count) (C.answered clock.old) (C.answered clock.new) self.old self.new place result }
-        ensures seeks { seeks self.old place ≡ true → IsNoted (S.sought sockets.old) (S.sought sockets.new) place }
+        ensures steps { Steps (seen_by L.input L.output L.fault_count) L.tried (C.answered clock.old) (C.answered clock.new) (T.answered timer.old) (T.answered timer.new) (S.sought sockets.old) (S.sought sockets.new) self.old self.new place result }
         ensures looks_away { seeks self.old place ≡ false → S.sought sockets.new ≡ S.sought sockets.old }
         ensures waited { S.waited sockets.new ≡ S.waited sockets.old }
     {
         match self.places.get(place) {
-            Some(Some(_)) => self.turn(clock, place),
-            Some(None) => self.admit(sockets, clock, place),
+            Some(Seat::Free) => self.admit(sockets, timer, place),
+            Some(Seat::Taken(_)) => self.turn(clock, timer, place),
+            Some(Seat::Lingering(_)) => self.linger(place),
             None => Step::Quiet,
         }
     }
 
     /// Gives the next connection a place, if one waits.
-    fn admit<S: Sockets<Link = L>, C: Clock>(
+    fn admit<S: Sockets<Link = L>, T: Clock>(
         &mut self,
         sockets: &mut S,
-        clock: &mut C,
+        timer: &mut T,
         place: usize,
     ) -> Step
-        ensures admits { Admits (C.answered clock.old) (C.answered clock.new) self.old self.new place result }
-        ensures seeks { can_accept self.old ≡ true → IsNoted (S.sought sockets.old) (S.sought sockets.new) place }
+        ensures admits { (asked : Option (List ℤ)) → Admits asked asked (T.answered timer.old) (T.answered timer.new) (S.sought sockets.old) (S.sought sockets.new) self.old self.new place result }
         ensures looks_away { can_accept self.old ≡ false → S.sought sockets.new ≡ S.sought sockets.old }
         ensures waited { S.waited sockets.new ≡ S.waited sockets.old }
     {
@@ -293,24 +281,35 @@ impl<'a, L: ReadyLink + Drop> Connections<'a, L> {
             return Step::Quiet;
         }
         match sockets.accept(place) {
-            Accepted::Link(link) => self.begin(link, clock.now(), place),
+            Accepted::Link(link) => self.begin(link, timer.now(), place),
             Accepted::Nobody => {
                 let listener = self.places.len();
                 self.note(listener, false);
+                Step::Quiet
+            }
+            Accepted::NoSocket => {
+                self.pause();
                 Step::Quiet
             }
             Accepted::Failed => self.fail(),
         }
     }
 
+    /// Nobody is accepted for half a second.
+    fn pause(&mut self)
+        ensures { self.new ≡ with_pause self.old }
+    {
+        self.shut = self.moment.saturating_add(PAUSE);
+    }
+
     /// Notes that nobody could be accepted, which is tried again after a pause, but not for ever.
     fn fail(&mut self) -> Step
         ensures failed { self.new ≡ with_failure self.old }
-        ensures told { result ≡ failure (with_failure self.old) }
+        ensures told { result ≡ told_failure (with_failure self.old) }
     {
         self.failed = self.failed.saturating_add(1);
         self.in_a_row = self.in_a_row.saturating_add(1);
-        self.shut = self.moment.saturating_add(PAUSE);
+        self.pause();
         if self.in_a_row < MOST_FAILURES {
             Step::NotAccepted(self.failed)
         } else {
@@ -346,7 +345,7 @@ impl<'a, L: ReadyLink + Drop> Connections<'a, L> {
             });
         };
         if let Some(free) = self.places.get_mut(place) {
-            *free = Some(Place {
+            *free = Seat::Taken(Place {
                 id,
                 link,
                 connection,
@@ -358,9 +357,10 @@ impl<'a, L: ReadyLink + Drop> Connections<'a, L> {
         Step::Quiet
     }
 
-    /// Gives the connection with this place a turn, if it is due, and frees the place where that is its last.
-    fn turn<C: Clock>(&mut self, clock: &mut C, place: usize) -> Step
-        ensures { (p : Place L) → HasPlace self.old place p → GoesOn (seen_by L.input L.output L.fault_count) (C.answered clock.old) (C.answered clock.new) self.old self.new place p result }
+    /// Gives the connection with this place a turn, if it is due. Where that is its last, its link lingers there, or the place
+    /// is free.
+    fn turn<C: Clock, T: Clock>(&mut self, clock: &mut C, timer: &mut T, place: usize) -> Step
+        ensures { (p : Place L) → HasPlace self.old place p → GoesOn (seen_by L.input L.output L.fault_count) L.tried (C.answered clock.old) (C.answered clock.new) (T.answered timer.old) (T.answered timer.new) self.old self.new place p result }
     {
         let is_ready = self.is_ready(place);
         let Some(seat) = self.places.get_mut(place) else {
@@ -369,8 +369,21 @@ impl<'a, L: ReadyLink + Drop> Connections<'a, L> {
         if !is_due(seat, is_ready, self.moment, self.patience) {
             return Step::Quiet;
         }
-        let (is_ready, step) = turn_at(seat, clock, self.patience);
+        let (is_ready, step) = turn_at(seat, clock, timer, self.moment, self.patience);
         self.note(place, is_ready);
         step
+    }
+
+    /// Gives the link that lingers at this place a step.
+    fn linger(&mut self, place: usize) -> Step
+        ensures { (asked timed : Option (List ℤ)) (l : LingeringLink L) → slice_get self.old.places place ≡ Some (Seat.Lingering l) → Fades (seen_by L.input L.output L.fault_count) L.tried asked asked timed timed self.old self.new place l result }
+    {
+        let is_ready = self.is_ready(place);
+        let Some(held) = self.places.get_mut(place) else {
+            return Step::Quiet;
+        };
+        let is_ready = linger_at(held, is_ready, self.moment);
+        self.note(place, is_ready);
+        Step::Quiet
     }
 }

@@ -2,8 +2,10 @@
 #![tactic(auto)]
 
 mod connections;
+mod lingering;
 mod place;
 mod sockets;
+mod soonest;
 mod tcp;
 
 pub use connections::Connections;

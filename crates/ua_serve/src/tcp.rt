@@ -17,6 +17,9 @@ const MOST_EVENTS: usize = 1024;
 /// The ticks of a millisecond.
 const MILLISECOND: u64 = 10_000;
 
+/// The errors of Linux that say that there is no socket to give: ENOMEM, ENFILE, EMFILE, ENOBUFS.
+const NO_SOCKET: [i32; 4] = [12, 23, 24, 105];
+
 /// A listener of TCP and the streams that it accepts, none of which waits.
 #[derive(Drop)]
 pub struct TcpSockets {
@@ -71,6 +74,14 @@ fn duration_of(ticks: u64) -> Duration {
     Duration::from_millis(ticks.div_ceil(MILLISECOND))
 }
 
+/// Whether a call failed since the system has no socket to give.
+fn is_want_of_sockets(error: &io::Error) -> bool {
+    match error.raw_os_error() {
+        Some(code) => NO_SOCKET.contains(&code),
+        None => false,
+    }
+}
+
 /// Notes that the link with this place, or the listener, is ready.
 fn note(ready: &mut [bool], place: usize)
     ensures { Wakes ready.old ready.new }
@@ -84,10 +95,12 @@ impl Sockets for TcpSockets {
     type Link = ReadyStream<TcpStream>;
 
     fn wait(&mut self, at_most: Option<u64>, ready: &mut [bool]) -> Result<(), LinkFault> {
-        match self.poll.poll(&mut self.events, at_most.map(duration_of)) {
-            Ok(()) => {}
-            Err(error) if error.kind() == io::ErrorKind::Interrupted => {}
-            Err(_) => return Err(LinkFault),
+        if self
+            .poll
+            .poll(&mut self.events, at_most.map(duration_of))
+            .is_err()
+        {
+            return Err(LinkFault);
         }
         for event in self.events.iter() {
             note(ready, event.token().0);
@@ -99,6 +112,7 @@ impl Sockets for TcpSockets {
         let mut stream = match self.listener.accept() {
             Ok((stream, _)) => stream,
             Err(error) if error.kind() == io::ErrorKind::WouldBlock => return Accepted::Nobody,
+            Err(error) if is_want_of_sockets(&error) => return Accepted::NoSocket,
             Err(_) => return Accepted::Failed,
         };
         let both = Interest::READABLE | Interest::WRITABLE;

@@ -60,7 +60,7 @@ fn count_round<'a>(
     tally: &mut Tally,
 ) {
     for place in 0..connections.places() {
-        let came = came_of(connections.step(listener, &mut At(0), place));
+        let came = came_of(connections.step(listener, &mut At(0), &mut At(0), place));
         count(came, bytes, tally);
     }
 }

@@ -5,6 +5,8 @@
 #![tactic(auto)]
 
 #[cfg(test)]
+mod accepting;
+#[cfg(test)]
 mod connection_ends;
 #[cfg(test)]
 mod connection_schedules;
@@ -12,6 +14,8 @@ mod connection_schedules;
 mod connections;
 #[cfg(test)]
 mod crowds;
+#[cfg(test)]
+mod lingering;
 #[cfg(test)]
 mod many_connections;
 #[cfg(test)]

@@ -17,6 +17,7 @@ use ua_test_shared::vectors::{ACKNOWLEDGE, HELLO};
 pub(crate) enum Coming<'a> {
     Client(Caller<'a>),
     Nobody,
+    NoSocket,
     Fails,
 }
 
@@ -29,7 +30,7 @@ pub(crate) struct Listener<'a> {
     wakes: bool,
     breaks: bool,
     /// How long the last wait may have been, and how often the listener was looked at.
-    at_most: Option<u64>,
+    pub(crate) at_most: Option<u64>,
     pub(crate) looks: u32,
 }
 
@@ -69,6 +70,7 @@ impl<'a> Sockets for Listener<'a> {
         match first {
             Coming::Client(client) => Accepted::Link(client),
             Coming::Nobody => Accepted::Nobody,
+            Coming::NoSocket => Accepted::NoSocket,
             Coming::Fails => Accepted::Failed,
         }
     }
@@ -95,7 +97,7 @@ pub(crate) fn came_of(step: Step) -> Came {
 
 /// A wait at a moment, behind which all may do something or nothing more, how long it may be, and the steps of all places.
 #[derive(Clone, Copy)]
-struct Round<'a> {
+pub(crate) struct Round<'a> {
     now: i64,
     wakes: bool,
     at_most: Option<u64>,
@@ -103,7 +105,7 @@ struct Round<'a> {
 }
 
 /// A round in which nobody new may do something.
-const fn still<'a>(now: i64, at_most: Option<u64>, came: &'a [Came]) -> Round<'a> {
+pub(crate) const fn still<'a>(now: i64, at_most: Option<u64>, came: &'a [Came]) -> Round<'a> {
     Round {
         now,
         wakes: false,
@@ -113,14 +115,14 @@ const fn still<'a>(now: i64, at_most: Option<u64>, came: &'a [Came]) -> Round<'a
 }
 
 /// Whether each place has a step that comes to this.
-fn are_steps<'a>(
+pub(crate) fn are_steps<'a>(
     connections: &mut Connections<'_, Caller<'a>>,
     listener: &mut Listener<'a>,
     now: i64,
     came: &[Came],
 ) -> bool {
     for (place, &want) in came.iter().enumerate() {
-        let step = connections.step(listener, &mut At(now), place);
+        let step = connections.step(listener, &mut At(now), &mut At(now), place);
         if came_of(step) != want {
             return false;
         }
@@ -129,7 +131,7 @@ fn are_steps<'a>(
 }
 
 /// Whether these are the rounds.
-fn are_rounds<'a>(
+pub(crate) fn are_rounds<'a>(
     connections: &mut Connections<'_, Caller<'a>>,
     listener: &mut Listener<'a>,
     rounds: &[Round],
@@ -151,7 +153,7 @@ pub(crate) const PATIENCE: u64 = 100;
 
 /// Whether so many connections are served in these rounds to the last one, at so many places, and the listener is looked
 /// at so often.
-fn are_served<'a>(
+pub(crate) fn are_served<'a>(
     alloc: Global,
     settings: &Settings,
     coming: &'a [Coming<'a>],
@@ -189,7 +191,7 @@ pub(crate) fn greeting<'a>() -> Caller<'a> {
     ready(HELLO, Some(ACKNOWLEDGE))
 }
 
-fn leaving<'a>() -> Caller<'a> {
+pub(crate) fn leaving<'a>() -> Caller<'a> {
     ready(b"", Some(b""))
 }
 
@@ -210,13 +212,13 @@ fn failing<'a>(mut client: Caller<'a>, calls: u32) -> Caller<'a> {
 
 pub(crate) const ENDED: Over = Over::Ended(End::InputEnded);
 
-const REFUSED: Over = Over::Ended(End::Refused(0x807E_0000));
+pub(crate) const REFUSED: Over = Over::Ended(End::Refused(0x807E_0000));
 
 const FAILED: Over = Over::Ended(End::LinkFailed);
 
-const QUIET: Came = Came::Quiet;
+pub(crate) const QUIET: Came = Came::Quiet;
 
-/// The third one waits until a place is free, and ids go on.
+/// The third one waits until a place is free, and ids go on. The place of the second one is not before its link has lingered.
 fn third_waits(alloc: Global, settings: &Settings) -> bool {
     let coming = [
         Coming::Client(greeting()),
@@ -228,7 +230,8 @@ fn third_waits(alloc: Global, settings: &Settings) -> bool {
         still(1000, Some(0), &[QUIET, QUIET]),
         still(1000, Some(0), &[QUIET, Came::Parted(2, REFUSED, 16, 16)]),
         still(1000, Some(0), &[Came::Parted(1, ENDED, 56, 28), QUIET]),
-        still(1000, Some(0), &[QUIET, Came::Parted(3, ENDED, 0, 0)]),
+        still(1000, Some(0), &[QUIET, QUIET]),
+        still(1000, Some(0), &[Came::Parted(3, ENDED, 0, 0), QUIET]),
     ];
     are_served(alloc, settings, &coming, 3, 3, &rounds)
 }
@@ -272,8 +275,9 @@ fn a_link_that_fails_ends_no_other_connection(rt: HostRuntime) {
     assert!(rt; by_default(rt.alloc(), others_go_on));
 }
 
-/// The first one says nothing at all, the second one nothing more at 1020. The longest wait is what the first of them has
-/// left, and no less than that where the clock goes back: for each by the greatest moment of its turns, 1020 and 1040.
+/// The first one says nothing at all, the second one a Hello at 1020, and opens no channel. The longest wait is what one of
+/// them has left, and no less than that where the clock goes back: for each by the greatest moment of its turns, 1020 and
+/// 1040, so that the second one has 60 left of its 100 for a channel.
 fn quiet_ones_are_ended(alloc: Global, settings: &Settings) -> bool {
     let coming = [
         Coming::Client(staying(leaving())),
@@ -285,17 +289,14 @@ fn quiet_ones_are_ended(alloc: Global, settings: &Settings) -> bool {
         still(1040, Some(0), &[QUIET, QUIET]),
         still(1050, Some(50), &[QUIET, QUIET]),
         still(1099, Some(1), &[QUIET, QUIET]),
-        still(900, Some(80), &[QUIET, QUIET]),
+        still(900, Some(60), &[QUIET, QUIET]),
         still(
             1100,
             Some(0),
-            &[Came::Parted(1, Over::TimedOut, 0, 0), QUIET],
-        ),
-        still(1119, Some(1), &[QUIET, QUIET]),
-        still(
-            1120,
-            Some(0),
-            &[QUIET, Came::Parted(2, Over::TimedOut, 56, 28)],
+            &[
+                Came::Parted(1, Over::TimedOut, 0, 0),
+                Came::Parted(2, Over::TimedOut, 56, 28),
+            ],
         ),
     ];
     are_served(alloc, settings, &coming, 2, 2, &rounds)
@@ -329,98 +330,6 @@ fn waits_for_the_first(alloc: Global, settings: &Settings) -> bool {
 #[test]
 fn without_anybody_a_wait_may_last(rt: HostRuntime) {
     assert!(rt; by_default(rt.alloc(), waits_for_the_first));
-}
-
-/// Behind a call that fails half a second passes before the next one, unless the clock goes back.
-fn accepts_again(alloc: Global, settings: &Settings) -> bool {
-    let coming = [
-        Coming::Fails,
-        Coming::Fails,
-        Coming::Client(leaving()),
-        Coming::Client(leaving()),
-    ];
-    let rounds = [
-        still(1000, Some(0), &[Came::NotAccepted(1), QUIET]),
-        still(1000, Some(5_000_000), &[QUIET, QUIET]),
-        still(5_000_999, Some(1), &[QUIET, QUIET]),
-        still(5_001_000, Some(0), &[Came::NotAccepted(2), QUIET]),
-        still(500_000, Some(0), &[QUIET, QUIET]),
-        still(
-            500_000,
-            Some(0),
-            &[Came::Parted(1, ENDED, 0, 0), Came::Parted(2, ENDED, 0, 0)],
-        ),
-    ];
-    are_served(alloc, settings, &coming, 2, 4, &rounds)
-}
-
-#[test]
-fn accepting_is_tried_again(rt: HostRuntime) {
-    assert!(rt; by_default(rt.alloc(), accepts_again));
-}
-
-const PAUSE: i64 = 5_000_000;
-
-/// So many calls fail behind those before, each after the pause of the one before.
-fn fails_on<'a>(
-    connections: &mut Connections<'_, Caller<'a>>,
-    listener: &mut Listener<'a>,
-    before: u64,
-    count: u64,
-) -> bool {
-    for n in 0..count {
-        let failures = before.saturating_add(n);
-        let now = i64::try_from(failures).unwrap_or(0).saturating_mul(PAUSE);
-        let waited = connections.wait(listener, &mut At(now)).is_ok();
-        let want = Came::NotAccepted(failures.saturating_add(1));
-        if !waited || !are_steps(connections, listener, now, &[want]) {
-            return false;
-        }
-    }
-    true
-}
-
-/// Ninety-nine fail, one is accepted and leaves, and behind it a hundred fail, of which the last is too many.
-fn gives_up<'a>(
-    connections: &mut Connections<'_, Caller<'a>>,
-    fails: &'a [Coming<'a>],
-    client: &'a [Coming<'a>],
-) -> bool {
-    let mut failing = Listener::new(fails);
-    if !fails_on(connections, &mut failing, 0, 99) {
-        return false;
-    }
-    let mut giving = Listener::new(client);
-    let between = [
-        still(99 * PAUSE, Some(0), &[QUIET]),
-        still(99 * PAUSE, Some(0), &[Came::Parted(1, ENDED, 0, 0)]),
-    ];
-    if !are_rounds(connections, &mut giving, &between) {
-        return false;
-    }
-    let mut failing = Listener::new(fails);
-    fails_on(connections, &mut failing, 99, 99)
-        && are_rounds(
-            connections,
-            &mut failing,
-            &[still(200 * PAUSE, Some(0), &[Came::Failed])],
-        )
-        && !connections.is_done()
-}
-
-fn gives_up_then(alloc: Global, settings: &Settings) -> bool {
-    let fails = [Coming::Fails; 100];
-    let client = [Coming::Client(leaving())];
-    let connections = Connections::new(alloc, settings, 2, 1, PATIENCE).ok();
-    passes(
-        connections,
-        |connections| gives_up(connections, &fails, &client),
-    )
-}
-
-#[test]
-fn accepting_is_given_up_after_a_hundred(rt: HostRuntime) {
-    assert!(rt; by_default(rt.alloc(), gives_up_then));
 }
 
 /// Whether a wait that fails is told.

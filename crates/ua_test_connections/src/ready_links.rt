@@ -26,8 +26,9 @@ pub(crate) struct Caller<'a> {
     pub there: usize,
     /// The most bytes that one read gives.
     pub gives: usize,
-    /// Whether it leaves once all is said.
+    /// Whether it leaves once all is said, and whether it does so at the latest when it hears that no more bytes come.
     pub leaves: bool,
+    pub follows: bool,
     /// What it has to hear next, where that is known: another byte is a fault.
     pub hears: Option<&'a [u8]>,
     /// How many bytes it still takes, and how many of them at one time.
@@ -45,6 +46,7 @@ pub(crate) const fn waiting<'a>(says: &'a [u8], hears: Option<&'a [u8]>) -> Call
         there: 0,
         gives: usize::MAX,
         leaves: true,
+        follows: false,
         hears,
         room: 0,
         takes: usize::MAX,
@@ -139,7 +141,9 @@ impl<'a> ReadyLink for Caller<'a> {
         Err(LinkFault)
     }
 
-    fn end_output(&mut self) {}
+    fn end_output(&mut self) {
+        self.leaves |= self.follows;
+    }
 
     fn failures(&self) -> u64 {
         self.failures

@@ -150,6 +150,7 @@ fn serve(
     };
     let mut listener = listener;
     let mut clock = SteppingClock(0);
+    let mut timer = SteppingClock(0);
     let crowd = Crowd {
         connections,
         at_once,
@@ -159,6 +160,7 @@ fn serve(
         rt.alloc(),
         &mut listener,
         &mut clock,
+        &mut timer,
         &settings,
         crowd,
         printed,

@@ -1,6 +1,8 @@
 //! The command `serve` with several connections at one time.
 
-ghost use Rattle.std.specs.Prelude.{◌≡◌, ◌⊎◌, false, Err, IsOk, IfOk, IfErr, IsErrAnd, MatchResult};
+ghost use Rattle.std.specs.Prelude.{◌≡◌, ◌⊎◌, false, length, Err, IsOk, IfOk, IfErr, IsErrAnd, MatchResult};
+ghost use Rattle.ua_serve.specs.Turn.{seen_by};
+ghost use Rattle.ua_serve.specs.Rounds.{Rounds};
 ghost use Rattle.ua_command.specs.Serve.{IsBindStop, IsServeStatus, IsServeStop, IsUnbound, Serves};
 ghost use Rattle.ua_command.specs.Why.{IsKnown};
 
@@ -16,7 +18,7 @@ use std::net::Net;
 use std::rt::{Clock as HostClock, Files};
 use std::{fmt, io};
 use ua_disco::Settings;
-use ua_link::{Clock, MachineClock, Over, ReadyLink};
+use ua_link::{Clock, MachineClock, Over, ReadyLink, SteadyClock};
 use ua_serve::{Connections, Parted, Sockets, Step, TcpSockets};
 use ua_value::plumbing::let_go;
 use ua_words::Source;
@@ -75,12 +77,13 @@ fn tell_failure<E: Write>(errors: &mut E, count: u64) {
     let _ = errors.flush();
 }
 
-/// Gives each place a step, and the exit status of what came of them and before. Where the stop is a link, `why` says that
-/// nobody could be accepted.
-fn round<'a, L, S, C, O, E>(
+/// Gives each place one step, in their order, and the exit status of what came of them and before. Where the stop is a link,
+/// `why` says that nobody could be accepted.
+fn round<'a, L, S, C, T, O, E>(
     connections: &mut Connections<'a, L>,
     sockets: &mut S,
     clock: &mut C,
+    timer: &mut T,
     status: u8,
     output: &mut O,
     errors: &mut E,
@@ -90,16 +93,18 @@ where
     L: ReadyLink + Drop,
     S: Sockets<Link = L>,
     C: Clock,
+    T: Clock,
     O: Write,
     E: Write,
     requires { IsServeStatus status }
+    ensures round { IfOk result (λ _. Rounds (seen_by L.input L.output L.fault_count) L.tried (length connections.old.places) (C.answered clock.old) (C.answered clock.new) (T.answered timer.old) (T.answered timer.new) (S.sought sockets.old) (S.sought sockets.new) connections.old connections.new) }
     ensures status { IfOk result IsServeStatus }
     ensures stop { IfErr result (λ stop. (stop ≡ Stop.File) ⊎ (stop ≡ Stop.Link)) }
     ensures known { result ≡ Err Stop.Link → IsKnown why.new }
 {
     let mut status = status;
     'places: for place in 0..connections.places() {
-        match connections.step(sockets, clock, place) {
+        match connections.step(sockets, clock, timer, place) {
             Step::Quiet => {}
             Step::Parted(parted) => {
                 status = status_after(status, parted.over);
@@ -117,10 +122,11 @@ where
 
 /// Rounds until all connections were served, and the exit status of their ends. Where the stop is a link, `why` says how
 /// it failed.
-fn rounds<'a, L, S, C, O, E>(
+fn rounds<'a, L, S, C, T, O, E>(
     connections: &mut Connections<'a, L>,
     sockets: &mut S,
     clock: &mut C,
+    timer: &mut T,
     output: &mut O,
     errors: &mut E,
     why: &mut Why,
@@ -129,6 +135,7 @@ where
     L: ReadyLink + Drop,
     S: Sockets<Link = L>,
     C: Clock,
+    T: Clock,
     O: Write,
     E: Write,
     ensures status { IfOk result IsServeStatus }
@@ -140,28 +147,40 @@ where
         if connections.is_done() {
             return Ok(status);
         }
-        if connections.wait(sockets, clock).is_err() {
+        if connections.wait(sockets, timer).is_err() {
             *why = Why::NotWaited;
             return Err(Stop::Link);
         }
-        status = round(connections, sockets, clock, status, output, errors, why)?;
+        status = round(
+            connections,
+            sockets,
+            clock,
+            timer,
+            status,
+            output,
+            errors,
+            why,
+        )?;
     }
     *why = Why::NotWaited;
     Err(Stop::Link)
 }
 
 /// Serves so many connections of these sockets by the settings, several at one time; their channels have the ids from 1
-/// on. Each one's line is printed as it ends, with `timed-out` where no byte came or went for as many seconds as patience
-/// lasts. A connection that fails, or for which there is no memory, ends no other one. Where nobody can be accepted, that
-/// is told on `errors` and tried again after half a second, a hundred times in a row at most.
+/// on. Each one's line is printed as it ends, with `timed-out` where patience with its client came to its end
+/// ([`ua_link::ServerConnection::turn`]), which goes by the steady clock `timer`; `clock` says the moments of the protocol. A
+/// connection that fails, or for which there is no memory, ends no other one. Where nobody can be accepted, that is told on
+/// `errors` and tried again after half a second, a hundred times in a row at most; want of sockets is not told, and ends
+/// nothing.
 ///
 /// The result is the exit status: 3 where nobody can be accepted so often, nothing can be waited for or a line can't be
 /// printed, of which `why` says which it was, and 4 where there is no memory to begin; these end the call and are told on
 /// `errors`. Else it is that of `serve_on`; a connection that patience ended counts as one that went well.
-pub fn serve_sockets<S, C, O, E>(
+pub fn serve_sockets<S, C, T, O, E>(
     alloc: Global,
     sockets: &mut S,
     clock: &mut C,
+    timer: &mut T,
     settings: &Settings,
     crowd: Crowd,
     output: &mut O,
@@ -171,6 +190,7 @@ pub fn serve_sockets<S, C, O, E>(
 where
     S: Sockets,
     C: Clock,
+    T: Clock,
     O: Write,
     E: Write,
     ensures { IsServeStatus result }
@@ -185,7 +205,7 @@ where
     else {
         return told(&Stop::NoMemory, errors);
     };
-    let served = rounds(&mut connections, sockets, clock, output, errors, why);
+    let served = rounds(&mut connections, sockets, clock, timer, output, errors, why);
     let_go(connections);
     match served {
         Ok(status) => status,
@@ -239,10 +259,12 @@ where
     };
     tell_place(&sockets, errors);
     let mut clock = MachineClock::new(rt);
+    let mut timer = SteadyClock::new(rt);
     Ok(serve_sockets(
         rt.alloc(),
         &mut sockets,
         &mut clock,
+        &mut timer,
         settings,
         crowd,
         output,

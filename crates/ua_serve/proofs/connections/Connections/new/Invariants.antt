@@ -1,5 +1,6 @@
-use Rattle.std.proofs.Common.{◌≡◌, replicate, None}
+use Rattle.std.proofs.Common.{◌≡◌, replicate}
+use Rattle.ua_serve.specs.declared.place.Seat.TheVariants.{Free}
 use Rattle.ua_serve.proofs.connections.Connections.new.Given as goal
 
 abbrev pub invariant-places : goal.invariant-places
-invariant-places g l = l.places.items ≡ replicate l.counter None
+invariant-places g l = l.places.items ≡ replicate l.counter Free

@@ -15,7 +15,7 @@ returns-then-not-is_due g c =
     let ready = rw (← c.self.view_is) at c.is_ready-is_ready.ensures in
     let due = simp to_z-of_z at c.is_due.ensures in
     let is : is_due seat (is_ready c.self.inside.ready.items c.args.place) c.self.inside.moment c.self.inside.patience ≡ false = due_so seat _ _ c.self.inside.moment c.self.inside.patience c.is_due.result false ready due c.if-not-is_due.true in
-    rw (← c.self.view_is) (λ p has. rests _ _ _ _ c.args.place seat p there has is refl)
+    rw (← c.self.view_is) (λ p has. rests _ _ _ _ _ _ c.args.place seat p there has is refl)
 
 pub returns : goal.returns
 returns g c =
@@ -25,4 +25,4 @@ returns g c =
     let ready = rw (← c.self.view_is) at c.is_ready-is_ready.ensures in
     let due = simp to_z-of_z at c.is_due.ensures in
     let is : is_due seat (is_ready c.self.inside.ready.items c.args.place) c.self.inside.moment c.self.inside.patience ≡ true = due_so seat _ _ c.self.inside.moment c.self.inside.patience c.is_due.result true ready due c.if-not-is_due.false in
-    rw (← c.self.view_is) (λ p has. turns _ _ _ _ _ c.args.place seat c.turn_at-is_ready.new.seat c.turn_at-is_ready.result.0 c.turn_at-is_ready.result.1 p there has is (λ same. c.turn_at-is_ready.ensures c.self.inside.settings.now p same) c.note.ensures)
+    rw (← c.self.view_is) (λ p has. turns _ _ _ _ _ _ _ _ c.args.place seat c.turn_at-is_ready.new.seat c.turn_at-is_ready.result.0 c.turn_at-is_ready.result.1 p there has is (λ same. simp to_z-of_z at (c.turn_at-is_ready.ensures c.self.inside.settings.now p same)) c.note.ensures)

@@ -14,7 +14,7 @@ returns-clause-waits g c =
     rw (← c.self.view_is) (simp to_z-of_z (record {
       before = before;
       at_most = c.longest_wait-at_most.result;
-      asks = asked_twice _ _ _ before after c.now-self-inside.ensures c.now-self-inside-2.ensures;
+      times = asked_twice _ _ _ before after c.now-self-inside.ensures c.now-self-inside-2.ensures;
       soonest = soonest;
       waits = c.wait-waited.ensures.waits;
       wakes = wakes_all c.self.inside.ready.items c.deref_mut.result.now c.wait-waited.new.ready c.self.inside.ready.len c.deref_mut.ensures.value c.self.inside.ready.ok.0 c.wait-waited.ensures.wakes;

@@ -6,10 +6,16 @@ pub returns : goal.returns
 returns g c = λ settings. record {
   id = refl;
   asks = c.turn-turn.ensures.asked;
+  times = c.turn-turn.ensures.timed;
   cut = c.turn-turn.ensures.cut;
-  bound = c.turn-turn.ensures.bound;
+  calls = c.turn-turn.ensures.calls;
+  failed = c.turn-turn.ensures.failed;
+  fed = c.turn-turn.ensures.fed;
+  waits = c.turn-turn.ensures.waits;
+  begun = c.turn-turn.ensures.begun;
   latest = c.turn-turn.ensures.latest;
   active = c.turn-turn.ensures.active;
+  frame = c.turn-turn.ensures.frame;
   patient = c.turn-turn.ensures.patient;
   impatient = c.turn-turn.ensures.impatient;
   read = c.saturating_add-self.ensures ∙ ap (λ k. counted (c.args.self.now.read + k)) c.came.ensures;
