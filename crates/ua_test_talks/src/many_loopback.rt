@@ -5,7 +5,7 @@ use std::net::{Shutdown, TcpStream};
 use std::time::Duration;
 use ua_command::{Crowd, Source, Stop, Why, serve_many, serve_sockets};
 use ua_disco::{DEFAULT, Settings};
-use ua_link::MachineClock;
+use ua_link::{MachineClock, SteadyClock};
 use ua_serve::TcpSockets;
 use ua_test_runs::pages::{Page, has};
 use ua_test_runs::vectors::{ACKNOWLEDGE, CALLS};
@@ -58,10 +58,12 @@ fn are_served(rt: &HostRuntime, sockets: &mut TcpSockets) -> bool {
     let mut printed = Page::new(4096);
     let mut told = Page::new(4096);
     let mut clock = MachineClock::new(rt);
+    let mut timer = SteadyClock::new(rt);
     let status = serve_sockets(
         rt.alloc(),
         sockets,
         &mut clock,
+        &mut timer,
         &settings,
         crowd,
         &mut printed,
