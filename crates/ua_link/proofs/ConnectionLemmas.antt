@@ -2,7 +2,7 @@
 use Rattle.std.proofs.Common.{arith, ◌≡◌, ℕ, zero, suc, ◌+◌, ◌-◌, ◌<◌, ◌≤◌, ◌==◌, ◌&&◌, nat_lt, nat_le, ℤ, pos, Bool, true, false, List, [], ◌∷◌, ◌++◌, length, take, drop, Option, Some, None, IfSome, is_none, refl, sym, ap, subst, ◌∙◌, ◌⊎◌, inl, inr, length-append, append_assoc}
 use Rattle.std.proofs.lemmas.Bool.Decides.{nat_tests}
 use Rattle.std.proofs.Math.Seq.{take-append_seam}
-use Rattle.std.proofs.lemmas.List.{append-nil, take-append-drop, length-take-le, length-drop}
+use Rattle.std.proofs.lemmas.List.{take-append-drop, length-take-le, length-drop}
 use Rattle.std.specs.Io.KnownBytes.{Appends, Consumes, Keeps, IsAtEnd}
 use Rattle.std.proofs.KnownBytes.{Appends-nil, Appends-trans, Appends-kept, Consumes-nil, Consumes-trans, Consumes-kept, Keeps-refl}
 use Rattle.ua_frame.specs.Streams.{Piece, timed, rest_within}
@@ -14,7 +14,7 @@ use Rattle.ua_conn.specs.declared.outcome.End.{End}
 use Rattle.ua_conn.specs.declared.outcome.End.TheVariants.{Closed, InputEnded, Truncated, Refused, LinkFailed, TurnsSpent, NoMemory}
 use Rattle.ua_conn.proofs.ServerEnd.RecordLemmas.{by_record}
 use Rattle.ua_conn.proofs.ServerEnd.StopLemmas.{stays}
-use Rattle.ua_link.specs.Reads.{Cut, piece_at, total, pieces_by, NoneEmpty, LastEmpty}
+use Rattle.ua_link.specs.Reads.{Cut, piece_at, pieces_by, NoneEmpty, LastEmpty}
 use Rattle.ua_link.specs.Turns.{Seen, more}
 use Rattle.ua_link.specs.Reports.{Tells, Served, faults_by, cuts_with}
 use Rattle.ua_link.specs.Connections.{Shown, SameStream, behind, IsBounded, Takes, TakesAll, Hears, Reads, Going, Leaving, Stage, Stands, Standing, Dropped, Leaves, Judges, Fed, IsFed, ending_with, ending_at_read, is_read, is_heard, bytes_of}
@@ -22,7 +22,7 @@ use Rattle.ua_link.specs.declared.connection.Over.{Over}
 use Rattle.ua_link.specs.declared.connection.Over.TheVariants.{Ended, TimedOut}
 use Rattle.ua_link.proofs.ReadLemmas.{total_more, pieces_more, none_empty_more}
 use Rattle.ua_link.proofs.EndLemmas.{nothing_yet, input_ends}
-use Rattle.ua_link.proofs.StreamLemmas.{same, other, both, more_same, behind_same, behind_parted, behind_bytes, no_more}
+use Rattle.ua_link.proofs.StreamLemmas.{same, both, more_same, behind_same, behind_parted, behind_bytes, no_more}
 use Rattle.ua_link.proofs.HearLemmas.{and_true, no_end, either_end}
 use Rattle.ua_link.proofs.ReportLemmas.{nothing_said}
 

@@ -1,13 +1,12 @@
 -- The front of a frame that is not whole.
-use Rattle.std.proofs.Common.{arith, ◌≡◌, ℕ, zero, suc, ◌+◌, ◌-◌, ◌<◌, ◌≤◌, min, max, nat_lt, true, false, if◌then◌else◌, List, [], ◌∷◌, ◌++◌, take, drop, length, refl, sym, ap, subst, ◌∙◌, ◌⊎◌, inl, inr, length-append, length-take-le, append-nil, take_all}
+use Rattle.std.proofs.Common.{arith, ◌≡◌, ℕ, zero, suc, ◌+◌, ◌-◌, ◌<◌, ◌≤◌, max, List, [], ◌++◌, take, length, refl, sym, ap, subst, ◌∙◌, ◌⊎◌, inl, inr, length-append, length-take-le, append-nil, take_all}
 use Rattle.std.proofs.lemmas.Bool.{cases_lt}
 use Rattle.std.proofs.lemmas.Bool.Decides.{nat_tests}
 use Rattle.std.proofs.lemmas.List.{take-append-le}
-use Rattle.std.proofs.Math.Seq.{take-append_seam}
 use Rattle.ua_frame.specs.Streams.{IsFrame, size_of}
-use Rattle.ua_frame.specs.StreamLaws.{size_append, size_take, short_has_none, cut_has_none, frame_size}
+use Rattle.ua_frame.specs.StreamLaws.{size_append, size_take, short_has_none, cut_has_none}
 use Rattle.ua_conn.specs.server.Feeding.{BeginsNoFrame, left_of}
-use Rattle.ua_conn.specs.server.FeedingLaws.{one_frame_at_most, left_begins_none}
+use Rattle.ua_conn.specs.server.FeedingLaws.{one_frame_at_most}
 use Rattle.ua_link.specs.Fronts.{IsFront, OneAtMost, wanted}
 
 pub nothing_partial : BeginsNoFrame []

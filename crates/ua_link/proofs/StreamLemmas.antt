@@ -1,7 +1,7 @@
 -- Pieces that are one stream, however they are cut.
 use Rattle.std.proofs.Common.{◌≡◌, ℕ, max, ℤ, List, [], ◌∷◌, ◌++◌, map, refl, sym, ap, ap₂, subst, ◌∙◌, append-nil, append_assoc, arith}
 use Rattle.std.proofs.lemmas.List.{map-append}
-use Rattle.ua_frame.specs.Streams.{Piece, TimedByte, at, timed, latest, timed_since, latest_since, moment_of}
+use Rattle.ua_frame.specs.Streams.{Piece, TimedByte, at, timed, latest, moment_of}
 use Rattle.ua_frame.specs.StreamLaws.{timed_more, latest_more}
 use Rattle.ua_link.specs.Reads.{piece_at}
 use Rattle.ua_link.specs.Turns.{more}

@@ -1,5 +1,4 @@
-//! How a connection ends that takes turns: by itself, with its input or its turns, by its link, and for want of memory;
-//! and that a client which does not take what it asked for is not read.
+//! How a connection ends that takes turns: by itself, with its input or its turns, by its link, and for want of memory.
 
 use crate::connections::{Row, TURNS, are_rows};
 use crate::ready_links::{Caller, NO_FUSE, ready, turned, waiting};
@@ -8,11 +7,9 @@ use ua_conn::End;
 use ua_disco::{DEFAULT, Settings};
 use ua_link::{Over, ServerConnection};
 use ua_test_lent::by_default;
-use ua_test_shared::bytes::{joined, repeated};
+use ua_test_shared::bytes::joined;
 use ua_test_shared::lending::{judged, passes};
-use ua_test_shared::vectors::{
-    ACKNOWLEDGE, CALLS, FIND_REQUEST, FIND_RESPONSE, HELLO, OPENED, OPENING, REPLIES,
-};
+use ua_test_shared::vectors::{ACKNOWLEDGE, CALLS, HELLO, REPLIES};
 
 /// Whether a connection of so many reads has these turns, all at the moment 0.
 fn goes_so(alloc: Global, settings: &Settings, client: Caller, turns: u32, rows: &[Row]) -> bool {
@@ -27,7 +24,7 @@ fn goes_so(alloc: Global, settings: &Settings, client: Caller, turns: u32, rows:
     )
 }
 
-const INPUT_ENDED: Option<Over> = Some(Over::Ended(End::InputEnded));
+pub(crate) const INPUT_ENDED: Option<Over> = Some(Over::Ended(End::InputEnded));
 
 const TRUNCATED: Option<Over> = Some(Over::Ended(End::Truncated));
 
@@ -42,7 +39,7 @@ const LINK_FAILED: Option<Over> = Some(Over::Ended(End::LinkFailed));
 const NO_MEMORY: Option<Over> = Some(Over::Ended(End::NoMemory));
 
 /// Nothing comes, and nothing goes.
-const NOTHING: Row = (0, 0, 0, None, 0, None);
+pub(crate) const NOTHING: Row = (0, 0, 0, None, 0, None);
 
 const LEFT_AT_ONCE: [Row; 1] = [(0, 0, 0, Some(0), 0, INPUT_ENDED)];
 
@@ -145,10 +142,10 @@ fn reads_are_counted_and_turns_without_them_are_not(rt: HostRuntime) {
 }
 
 /// What came of a connection so far: the bytes of its reads, the bytes that went out, and how it is over.
-type Came = (usize, usize, Option<Over>);
+pub(crate) type Came = (usize, usize, Option<Over>);
 
 /// One more turn, unless it is over. A piece of the calls comes before it.
-fn add_turn(
+pub(crate) fn add_turn(
     connection: &mut ServerConnection,
     client: &mut Caller,
     piece: usize,
@@ -251,68 +248,6 @@ fn each_fails_alone(alloc: Global, settings: &Settings) -> bool {
 #[test]
 fn a_link_that_fails_ends_its_connection_alone(rt: HostRuntime) {
     assert!(rt; by_default(rt.alloc(), each_fails_alone));
-}
-
-/// A client asks two thousand times and takes nothing. A read of 4096 bytes is there each time; behind so many of them
-/// `188 + 93 n` bytes are n requests, to which `163 + 134 n` bytes are owed: 64,751 behind eleven reads. Of the twelfth six
-/// more are heard, to which 65,555 are owed, and 3,580 bytes wait.
-const TWELVE: Row = (0, 0, 0, Some(4096), 0, None);
-
-/// It takes 5,110 bytes, and 38 more requests are heard: 65,537 are owed, and the first half of a request waits. It takes
-/// one more: that is heard, then the next read, and of that one request: 65,670 are owed. And it takes an answer: one more is
-/// heard.
-const TAKES_SOME: [Row; 9] = [
-    NOTHING,
-    (0, 0, 5110, None, 5110, None),
-    NOTHING,
-    (0, 0, 1, None, 1, None),
-    NOTHING,
-    TWELVE,
-    NOTHING,
-    (0, 0, 134, None, 134, None),
-    NOTHING,
-];
-
-/// Whether it is read no further than that, and then to its end as it takes all.
-fn is_bounded(connection: &mut ServerConnection, asks: &[u8], replies: &[u8]) -> bool {
-    let mut client = waiting(asks, Some(replies));
-    client.there = usize::MAX;
-    if !are_rows(connection, &mut client, 1, &[TWELVE; 12])
-        || !are_rows(connection, &mut client, 1, &TAKES_SOME)
-    {
-        return false;
-    }
-    client.room = usize::MAX;
-    let mut came = (13 * 4096, 5110 + 1 + 134, None);
-    for _ in 0..40 {
-        came = add_turn(connection, &mut client, 0, came);
-    }
-    came == (186_188, 268_163, INPUT_ENDED) && client.heard_all()
-}
-
-fn are_bounded(alloc: Global, settings: &Settings, asks: &[u8], replies: &[u8]) -> bool {
-    let connection = ServerConnection::new(alloc, settings, 1, 0, TURNS).ok();
-    passes(
-        connection,
-        |connection| is_bounded(connection, asks, replies),
-    )
-}
-
-fn owes_no_more(alloc: Global, settings: &Settings) -> bool {
-    match (
-        repeated(alloc, OPENING, FIND_REQUEST, 2000),
-        repeated(alloc, OPENED, FIND_RESPONSE, 2000),
-    ) {
-        (Ok(asks), Ok(replies)) => {
-            are_bounded(alloc, settings, asks.as_slice(), replies.as_slice())
-        }
-        _ => false,
-    }
-}
-
-#[test]
-fn a_client_that_takes_nothing_is_not_read(rt: HostRuntime) {
-    assert!(rt; by_default(rt.alloc(), owes_no_more));
 }
 
 /// Whether the calls are served whole; none where memory ran out.

@@ -81,13 +81,7 @@ fn staying(says: &[u8]) -> Caller<'_> {
 }
 
 /// Whether a connection has these turns with a client that opens a channel and asks; it does not leave.
-fn opens(
-    alloc: Global,
-    settings: &Settings,
-    begun: i64,
-    patience: u64,
-    rows: &[Row],
-) -> bool {
+fn opens(alloc: Global, settings: &Settings, begun: i64, patience: u64, rows: &[Row]) -> bool {
     match joined(alloc, &[OPENING, FIND_REQUEST]) {
         Ok(says) => {
             let mut client = waiting(says.as_slice(), None);
@@ -329,12 +323,7 @@ fn ended_within(connection: &mut ServerConnection, client: &mut Caller, step: i6
 
 /// For steps of so many ticks, the moment at which a connection times out whose channel was open at 1000: a frame of 93
 /// bytes that began a step later, and is whole 92 steps behind that, is in time where these are less than 1000 ticks.
-const STEPS: [(i64, Option<i64>); 4] = [
-    (1, None),
-    (10, None),
-    (11, Some(2012)),
-    (99, Some(2188)),
-];
+const STEPS: [(i64, Option<i64>); 4] = [(1, None), (10, None), (11, Some(2012)), (99, Some(2188))];
 
 fn are_slow(alloc: Global, settings: &Settings, calls: &[u8]) -> bool {
     let mut right = true;

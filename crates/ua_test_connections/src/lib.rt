@@ -7,6 +7,8 @@
 #[cfg(test)]
 mod accepting;
 #[cfg(test)]
+mod connection_bounds;
+#[cfg(test)]
 mod connection_ends;
 #[cfg(test)]
 mod connection_schedules;

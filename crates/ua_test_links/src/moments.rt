@@ -4,13 +4,15 @@ ghost use Rattle.std.specs.Prelude.{◌≡◌, false, cond, Some, None};
 
 use crate::links::TURNS;
 use std::alloc::{AllocError, Global};
+use std::cell::Cell;
 use std::io;
 use std::rt::Clock as HostClock;
 use std::time::{Duration, SystemTime, UNIX_EPOCH};
 use ua_conn::{Client, ClientConfig, End, Server};
 use ua_disco::Settings;
 use ua_link::{
-    ClientTurn, Clock, Link, MachineClock, MemoryLink, pump, pump_client, serve_connection,
+    ClientTurn, Clock, Link, MachineClock, MemoryLink, SteadyClock, pump, pump_client,
+    serve_connection,
 };
 use ua_test_lent::by_default;
 use ua_test_shared::bytes::{changed, joined};
@@ -265,6 +267,47 @@ fn a_machine_counts_from_1970(rt: HostRuntime) {
     }
     assert_eq!(rt; moment_of(Some(Duration::from_secs(u64::MAX / 2))), 0);
     assert_eq!(rt; moment_of(None), 0);
+}
+
+/// A machine whose steady clock gives these times in turn, and then the last one; or fails there.
+struct Ticking {
+    times: [Option<u64>; 6],
+    next: Cell<usize>,
+}
+
+impl HostClock for Ticking {
+    fn monotonic(&self) -> io::Result<Duration> {
+        let place = self.next.get().min(5);
+        self.next.set(place.saturating_add(1));
+        match self.times[place] {
+            Some(time) => Ok(Duration::from_nanos(time)),
+            None => Err(io::Error::from(io::ErrorKind::Other)),
+        }
+    }
+
+    fn since_1970(&self) -> io::Result<Duration> {
+        Err(io::Error::from(io::ErrorKind::Other))
+    }
+}
+
+/// The ticks are counted from the first reading that did not fail; what goes back, and what fails, is the moment before.
+#[test]
+fn a_steady_clock_never_goes_back(rt: HostRuntime) {
+    let machine = Ticking {
+        times: [
+            None,
+            Some(5000),
+            Some(5199),
+            Some(4000),
+            None,
+            Some(9_000_000_000_005_000),
+        ],
+        next: Cell::new(0),
+    };
+    let mut clock = SteadyClock::new(&machine);
+    for moment in [0, 0, 1, 1, 1, 90_000_000_000_000] {
+        assert_eq!(rt; clock.now(), moment);
+    }
 }
 
 /// The machine's time, in ticks of 100 ns since 1601.

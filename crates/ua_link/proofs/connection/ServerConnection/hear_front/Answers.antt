@@ -1,4 +1,4 @@
-use Rattle.std.proofs.Common.{arith, rules, w64, ◌≡◌, ◌+◌, ◌/◌, ◌<◌, ◌≤◌, ◌∙◌, refl, sym, ap, subst, true, drop, length, min, None, nat_lt, if◌then◌else◌, length-append}
+use Rattle.std.proofs.Common.{arith, rules, w64, ◌≡◌, ◌/◌, ◌<◌, ◌≤◌, ◌∙◌, refl, sym, ap, subst, true, drop, length, min, None, nat_lt, if◌then◌else◌, length-append}
 use Rattle.std.proofs.lemmas.Int.{to_z-of_z}
 use mir.Val.{SFits}
 use Rattle.ua_link.specs.Fronts.{wanted}

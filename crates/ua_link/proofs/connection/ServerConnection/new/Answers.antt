@@ -1,4 +1,4 @@
-use Rattle.std.proofs.Common.{rules, arith, sym, ap, subst, List, [], ℕ, pos, None, false, refl}
+use Rattle.std.proofs.Common.{arith, sym, ap, subst, List, [], ℕ, pos, None, false}
 use Rattle.ua_conn.specs.server.Site.{Site}
 use Rattle.ua_conn.specs.server.Feeding.{Shown as Server}
 use Rattle.ua_conn.specs.server.Held.{held}

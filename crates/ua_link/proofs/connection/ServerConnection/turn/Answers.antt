@@ -1,12 +1,10 @@
-use Rattle.std.proofs.Common.{rules, w64, ◌≡◌, ◌+◌, ◌<◌, ℕ, Option, Some, None, List, drop, max, sym, ap, subst, IfSome, true, ◌≤◌, ◌∙◌}
-use Rattle.std.proofs.lemmas.Int.{to_z-of_z}
+use Rattle.std.proofs.Common.{rules, w64, ◌≡◌, ◌+◌, Option, sym, ap, subst, IfSome, true, ◌≤◌}
 use mir.Val.{SFits}
-use Rattle.ua_frame.specs.Streams.{moment_of}
 use Rattle.ua_conn.specs.declared.outcome.End.TheVariants.{NoMemory}
 use Rattle.ua_link.specs.Reads.{Cut}
 use Rattle.ua_link.specs.Turns.{Seen}
 use Rattle.ua_link.specs.Reports.{cuts_with}
-use Rattle.ua_link.specs.Connections.{Shown, Leaves, Standing, Reads, IsFed, is_read}
+use Rattle.ua_link.specs.Connections.{Shown, Leaves, IsFed, is_read}
 use Rattle.ua_link.specs.declared.connection.ReadyTurn.{ReadyTurn}
 use Rattle.ua_link.proofs.ConnectionLemmas.{broken, same_kept, noted_so, heard_so, starved, ended_with_none, cut_so, fed_so, fed_still, waits_so}
 use Rattle.ua_link.proofs.connection.ServerConnection.turn.Goals as goal

@@ -1,5 +1,5 @@
 use Rattle.std.proofs.Common.{arith, ◌≡◌, ◌+◌, ◌-◌, ◌≤◌, ℕ, List, take, drop, length, sym, ap, ◌∙◌}
-use Rattle.std.proofs.lemmas.List.{drop-take, drop-drop, length-take-le, length-take, length-drop}
+use Rattle.std.proofs.lemmas.List.{drop-take, drop-drop, length-take}
 use Rattle.ua_link.proofs.waiting.Waiting.drop_front.Goals as goal
 
 left_behind : (room : List ℕ) (start end n : ℕ) → n ≤ length (take (end - start) (drop start room)) → take (end - (start + n)) (drop (start + n) room) ≡ drop n (take (end - start) (drop start room))
