@@ -21,4 +21,6 @@ mod lingering;
 #[cfg(test)]
 mod many_connections;
 #[cfg(test)]
+mod patience;
+#[cfg(test)]
 mod ready_links;
