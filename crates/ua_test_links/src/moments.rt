@@ -270,6 +270,7 @@ fn a_machine_counts_from_1970(rt: HostRuntime) {
 }
 
 /// A machine whose steady clock gives these times in turn, and then the last one; or fails there.
+#[derive(Drop)]
 struct Ticking {
     times: [Option<u64>; 6],
     next: Cell<usize>,
