@@ -1,5 +1,6 @@
 pub mod Lines
 pub mod Dropped
+pub mod Rounding
 pub mod Runs
 pub mod Values
 pub mod Ends
