@@ -345,7 +345,7 @@ impl<'a, L: ReadyLink + Drop> Connections<'a, L> {
             });
         };
         if let Some(free) = self.places.get_mut(place) {
-            *free = Seat::Taken(Place {
+            free.hold(Place {
                 id,
                 link,
                 connection,

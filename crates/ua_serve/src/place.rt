@@ -74,6 +74,15 @@ impl<'a, L> Seat<'a, L> {
     }
 }
 
+impl<'a, L: Drop> Seat<'a, L> {
+    /// Lets go of what has the place, and gives it to this connection.
+    pub(crate) fn hold(&mut self, place: Place<'a, L>)
+        ensures { self.new ≡ Seat.Taken place.entry }
+    {
+        let_go(mem::replace(self, Seat::Taken(place)));
+    }
+}
+
 /// Whether all these places are free.
 pub(crate) fn are_free<L>(places: &[Seat<L>]) -> bool
     ensures { IsTrue result ↔ All (λ seat. seat ≡ Seat.Free) places.now }
