@@ -6,7 +6,7 @@ ghost use Rattle.ua_serve.specs.declared.place.Place.{Place};
 ghost use Rattle.ua_serve.specs.declared.place.Seat.{Seat};
 ghost use Rattle.ua_serve.specs.Places.{is_ready, HasPlace, AreNumbered};
 ghost use Rattle.ua_serve.specs.Turn.{seen_by};
-ghost use Rattle.ua_serve.specs.Admission.{Admits, Begins, pause_left, may_accept, can_accept, with_one, with_pause, with_failure, told_failure};
+ghost use Rattle.ua_serve.specs.Admission.{Admits, Begins, pause_left, may_accept, can_accept, with_one, with_pause, with_place, with_failure, told_failure};
 ghost use Rattle.ua_serve.specs.Steps.{seeks, Steps, GoesOn, Fades, AllStand, IsTold};
 ghost use Rattle.ua_serve.specs.Waits.{due_in, IsSoonest, Waits};
 
@@ -344,17 +344,26 @@ impl<'a, L: ReadyLink + Drop> Connections<'a, L> {
                 written: 0,
             });
         };
-        if let Some(free) = self.places.get_mut(place) {
-            free.hold(Place {
-                id,
-                link,
-                connection,
-                read: 0,
-                written: 0,
-            });
+        let taken = Place {
+            id,
+            link,
+            connection,
+            read: 0,
+            written: 0,
+        };
+        self.seat(place, taken);
+        Step::Quiet
+    }
+
+    /// Gives the place with this number to a connection, which may do something.
+    fn seat(&mut self, place: usize, taken: Place<'a, L>)
+        ensures { self.new ≡ with_place self.old place taken.entry }
+    {
+        match self.places.get_mut(place) {
+            Some(seat) => seat.hold(taken),
+            None => let_go(taken),
         }
         self.note(place, true);
-        Step::Quiet
     }
 
     /// Gives the connection with this place a turn, if it is due. Where that is its last, its link lingers there, or the place
