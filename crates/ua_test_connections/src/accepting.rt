@@ -75,17 +75,29 @@ fn wants_sockets_for_long<'a>(
     listener.looks == 200
 }
 
+/// Behind that one failure is told as the first.
+fn fails_behind<'a>(
+    connections: &mut Connections<'_, Caller<'a>>,
+    wants: &'a [Coming<'a>],
+    failing: &'a [Coming<'a>],
+) -> bool {
+    let mut listener = Listener::new(wants);
+    if !wants_sockets_for_long(connections, &mut listener) {
+        return false;
+    }
+    let mut behind = Listener::new(failing);
+    let fails = [still(200 * PAUSE, Some(0), &[Came::NotAccepted(1)])];
+    are_rounds(connections, &mut behind, &fails)
+}
+
 fn goes_on_without_sockets(alloc: Global, settings: &Settings) -> bool {
     let wants = [Coming::NoSocket; 200];
-    let mut listener = Listener::new(&wants);
     let failing = [Coming::Fails];
-    let mut behind = Listener::new(&failing);
     let connections = Connections::new(alloc, settings, 1, 1, PATIENCE).ok();
-    let fails = [still(200 * PAUSE, Some(0), &[Came::NotAccepted(1)])];
-    passes(connections, |connections| {
-        wants_sockets_for_long(connections, &mut listener)
-            && are_rounds(connections, &mut behind, &fails)
-    })
+    passes(
+        connections,
+        |connections| fails_behind(connections, &wants, &failing),
+    )
 }
 
 #[test]

@@ -31,6 +31,20 @@ fn is_round<'a>(
     waited && listener.at_most == at_most && came == want
 }
 
+/// Whether the one who comes is served in these rounds, and in no fewer.
+fn are_all_rounds<'a>(
+    connections: &mut Connections<'_, Caller<'a>>,
+    coming: &'a [Coming<'a>],
+    rounds: &[(i64, Option<u64>, Came)],
+) -> bool {
+    let mut listener = Listener::new(coming);
+    let mut served = true;
+    for &round in rounds {
+        served &= !connections.is_done() && is_round(connections, &mut listener, round);
+    }
+    served && connections.is_done()
+}
+
 /// Whether one connection at one place is served in these rounds, and in no fewer.
 fn is_served<'a>(
     alloc: Global,
@@ -39,15 +53,11 @@ fn is_served<'a>(
     rounds: &[(i64, Option<u64>, Came)],
 ) -> bool {
     let coming = [Coming::Client(client)];
-    let mut listener = Listener::new(&coming);
     let connections = Connections::new(alloc, settings, 1, 1, PATIENCE).ok();
-    passes(connections, |connections| {
-        let mut served = true;
-        for &round in rounds {
-            served &= !connections.is_done() && is_round(connections, &mut listener, round);
-        }
-        served && connections.is_done()
-    })
+    passes(
+        connections,
+        |connections| are_all_rounds(connections, &coming, rounds),
+    )
 }
 
 const QUIET: Came = Came::Quiet;
@@ -122,23 +132,33 @@ fn the_last_word_is_waited_for(rt: HostRuntime) {
     assert!(rt; by_default(rt.alloc(), is_heard_no_longer));
 }
 
+/// Whether the one who comes is over in one of these days, none of which moves the steady clock, and its link then lingers.
+fn is_over_once<'a>(
+    connections: &mut Connections<'_, Caller<'a>>,
+    coming: &'a [Coming<'a>],
+    days: &[i64],
+) -> bool {
+    let mut listener = Listener::new(coming);
+    let mut parted = 0u32;
+    for &day in days {
+        let waited = connections.wait(&mut listener, &mut At(7)).is_ok();
+        let step = connections.step(&mut listener, &mut At(day), &mut At(7), 0);
+        if waited && came_of(step) == PARTED {
+            parted = parted.saturating_add(1);
+        }
+    }
+    parted == 1 && !connections.is_done()
+}
+
 /// Whether a day's clock that steps far ahead and back changes nothing of what goes by the steady one.
 fn days_do_not_count(alloc: Global, settings: &Settings) -> bool {
     let coming = [Coming::Client(strange(SAYS))];
-    let mut listener = Listener::new(&coming);
-    let connections = Connections::new(alloc, settings, 1, 1, PATIENCE).ok();
     let days = [SECOND * 1000, 0, SECOND * 2000, -SECOND];
-    passes(connections, |connections| {
-        let mut parted = 0u32;
-        for day in days {
-            let waited = connections.wait(&mut listener, &mut At(7)).is_ok();
-            let step = connections.step(&mut listener, &mut At(day), &mut At(7), 0);
-            if waited && came_of(step) == PARTED {
-                parted = parted.saturating_add(1);
-            }
-        }
-        parted == 1 && !connections.is_done()
-    })
+    let connections = Connections::new(alloc, settings, 1, 1, PATIENCE).ok();
+    passes(
+        connections,
+        |connections| is_over_once(connections, &coming, &days),
+    )
 }
 
 #[test]
