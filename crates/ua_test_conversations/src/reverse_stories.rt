@@ -143,27 +143,39 @@ fn long_url(alloc: Global) -> Result<UaString, ValueFault> {
     UaString::from_string(url)
 }
 
-fn tells_of_any_url(alloc: Global, settings: &Settings, steps: &[Step], told: Told) -> bool {
-    passes(long_url(alloc).ok(), |url| {
-        passes(
-            story_with(alloc, settings, url, steps),
-            |story| is_told(story, told),
-        )
-    })
+/// What is told of these steps, where the client was given such a url.
+fn story_of_any_url(alloc: Global, settings: &Settings, steps: &[Step]) -> Option<Story> {
+    judged(
+        long_url(alloc).ok(),
+        |url| story_with(alloc, settings, url, steps),
+    )
+}
+
+fn story_by_frames(alloc: Global, settings: &Settings) -> Option<Story> {
+    judged(
+        steps_of(alloc, &BY_FRAMES),
+        |steps| story_of_any_url(alloc, settings, steps.as_slice()),
+    )
+}
+
+fn tells_of_any_url(story: &Story, up: &[u8], down: &[u8]) -> bool {
+    is_told(
+        story,
+        Told {
+            up,
+            down,
+            answers: &[(2, None)],
+        },
+    )
 }
 
 fn any_url_is_given(alloc: Global, settings: &Settings) -> bool {
     let (Ok(up), Ok(down)) = (joined(alloc, &SENT), joined(alloc, &REPLIED)) else {
         return false;
     };
-    let told = Told {
-        up: up.as_slice(),
-        down: down.as_slice(),
-        answers: &[(2, None)],
-    };
     passes(
-        steps_of(alloc, &BY_FRAMES),
-        |steps| tells_of_any_url(alloc, settings, steps.as_slice(), told),
+        story_by_frames(alloc, settings),
+        |story| tells_of_any_url(story, up.as_slice(), down.as_slice()),
     )
 }
 
