@@ -178,17 +178,18 @@ def verdicts_of(said):
     return {path: of_its_own(path, verdicts) for path in verdicts}
 
 
+def is_named(path, goal, above):
+    """Whether the name of a goal, or of an answer, of a cycle of calls begins with this member's: with the modules and the type that it
+    stands in, below so many of its path, or without (`data::each_data`)."""
+    return any(goal.startswith("::".join(path[at:]) + "-") for at in range(above, len(path)))
+
+
 def path_of_proofs(folder, answer, verdicts):
     """The function that an answer is for. A cycle of calls has one folder, +NAME, and names each answer for its member first."""
     if not folder[-1].startswith("+"):
         return folder
     above = len(folder) - 1
-
-    def is_named(it):
-        # (with the modules and the type that it stands in, below the folder's module, or without: `data::each_data`)
-        return any(answer.startswith("::".join(it[at:]) + "-") for at in range(above, len(it)))
-
-    members = [it for it in verdicts if it[:above] == folder[:-1] and is_named(it)]
+    members = [it for it in verdicts if it[:above] == folder[:-1] and is_named(it, answer, above)]
     return max(members, key=lambda it: len(it[-1]), default=(*folder[:-1], folder[-1][1:]))
 
 
@@ -197,7 +198,7 @@ def of_its_own(path, verdicts):
     verdict = verdicts[path]
 
     def is_of_another(goal):
-        named = [it for it in verdicts if goal in verdicts[it].goals and goal.startswith(it[-1] + "-")]
+        named = [it for it in verdicts if goal in verdicts[it].goals and is_named(it, goal, 0)]
         return bool(named) and path not in named
 
     notes = [it for it in verdict.notes if not is_of_another(it[2])]

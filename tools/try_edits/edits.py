@@ -47,6 +47,11 @@ class Crate:
     def length(self):
         return sum(read(path).count("\n") for path in sources(self.folder))
 
+    @functools.cache
+    def functions(self):
+        """How many functions with a body its sources have."""
+        return sum(len(functions_of("", read(path))) for path in sources(self.folder))
+
 
 def sources(folder):
     for at, folders, names in os.walk(f"{folder}/src"):

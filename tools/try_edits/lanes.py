@@ -13,9 +13,9 @@ GIGABYTES_A_LANE = 4
 Task = collections.namedtuple("Task", "name after weight memory takes_more run")
 
 
-def memory_of(functions):
-    """What a check of a crate with so many functions takes at the most, in bytes (docs/GATE.md, "Memory")."""
-    return 0.8e9 + 9e6 * functions
+def memory_of(crate, places=0):
+    """What a check of a crate with so many wrong bodies takes at the most, in bytes (docs/GATE.md, "Memory")."""
+    return 0.8e9 + 12e6 * crate.functions() + 2e6 * sum(it.functions() for it in crate.below) + 40e6 * places
 
 
 class Width:

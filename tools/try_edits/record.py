@@ -125,12 +125,6 @@ def place_of(place):
     return f"{title(place.edit)} {place.pairs[0].file}:{place.line} {names}"
 
 
-def lacking(entry, places):
-    """The places that an entry does not have, and those that it has and that are gone."""
-    now, then = sorted(map(place_of, places)), sorted(it.partition(": ")[0] for it in entry.places)
-    return sorted({*now} ^ {*then}) or ([] if len(now) == len(then) == entry.number else ["their number"])
-
-
 def too_few(entry, number):
     """Whether places went of which nobody says why."""
     return number < entry.number - len(entry.dropped)

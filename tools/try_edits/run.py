@@ -4,9 +4,9 @@ import threading
 import time
 
 from try_edits.checks import Checked, control_of, only_of, paths_of, texts_of, verdicts_of, what_refused, with_controls
-from try_edits.edits import batches_of, edits_of, functions_of, key_of, proof_file_of, read, sources, title
+from try_edits.edits import batches_of, edits_of, key_of, proof_file_of, title
 from try_edits.lanes import Task, memory_of
-from try_edits.record import Entry, digests_of, git, place_of, too_few, uncommitted
+from try_edits.record import Entry, Record, digests_of, git, place_of, too_few, uncommitted
 
 # Above the weight of any batch: the last crate's batches wait for all proofs below it.
 PROOFS_FIRST = 10**9
@@ -25,10 +25,10 @@ def all_batches(crate):
 
 
 class Run:
-    """What is tried, in which rooms; the record that it is written into, or none."""
+    """What is tried, in which rooms, and whether what is found is written into the record."""
 
-    def __init__(self, wanted, rooms, record, versions, order):
-        self.wanted, self.rooms, self.record, self.versions, self.order = wanted, rooms, record, versions, order
+    def __init__(self, wanted, rooms, is_kept, versions, order):
+        self.wanted, self.rooms, self.is_kept, self.versions, self.order = wanted, rooms, is_kept, versions, order
         self.broken, self.printing = set(), threading.Lock()
 
     def first_tasks(self):
@@ -38,9 +38,8 @@ class Run:
             above = [behind[it.name] for it in crate.above if it in self.wanted]
             behind[crate.name] = crate.length() * (1 + len(crate.places) / 50) + max(above, default=0)
         for crate in self.wanted:
-            memory = memory_of(sum(len(functions_of("", read(it))) for it in sources(crate.folder)))
             after = [it.name for it in crate.below]
-            yield Task(crate.name, after, PROOFS_FIRST + behind[crate.name], memory, True, lambda jobs, it=crate: self.prove(it, jobs))
+            yield Task(crate.name, after, PROOFS_FIRST + behind[crate.name], memory_of(crate), True, lambda jobs, it=crate: self.prove(it, jobs))
 
     # -- proving what the batches stand on
 
@@ -73,8 +72,8 @@ class Run:
     # -- the batches
 
     def task(self, crate, batch, number):
-        weight, memory = crate.length() * (1 + len(batch)), memory_of(len(crate.verdicts))
-        return Task(f"{crate.name} batch {number}", (), weight, memory, False, lambda jobs: self.attempt(crate, batch, number))
+        weight = crate.length() * (1 + len(batch))
+        return Task(f"{crate.name} batch {number}", (), weight, memory_of(crate, len(batch)), False, lambda jobs: self.attempt(crate, batch, number))
 
     def check(self, crate, batch, control, asked):
         texts = texts_of(crate, batch, control)
@@ -176,7 +175,7 @@ class Run:
             if crate.open == 0:
                 if crate.drawn is not None:
                     self.compare(crate)
-                elif self.record and crate.is_whole:
+                elif self.is_kept and crate.is_whole:
                     self.keep(crate)
                 say("\n".join([f"== {crate.name} ({time.time() - crate.started:.0f} s, at most {crate.memory / 1e9:.1f} GB)", *sorted(crate.lines)]))
 
@@ -187,12 +186,13 @@ class Run:
         crate.lines += [f"FAILED {crate.name}: wrong-bodies.passed has another line than {it}" for it in strange]
 
     def keep(self, crate):
-        """Writes what was found of a crate into the record, or takes out what stands there and is not so."""
-        entry = self.record.entries.get(crate.name)
+        """Writes what was found of a crate into the record, as that is by now, or takes out what stands there and is not so."""
+        record = Record()
+        entry = record.entries.get(crate.name)
         if crate.failed:
-            self.record.entries.pop(crate.name, None)
-            self.record.whole = None
-            return self.record.save(self.order)
+            record.entries.pop(crate.name, None)
+            record.whole = None
+            return record.save(self.order)
         changed = uncommitted(crate)
         if digests_of([crate], self.versions[1])[crate.name] != crate.digest or changed:
             crate.lines.append(f"-- {crate.name}: not written into wrong-bodies.passed, since this is not committed: {changed or 'what was tried'}")
@@ -202,6 +202,6 @@ class Run:
         else:
             kit, logic = self.versions
             dropped = entry.dropped if entry else []
-            self.record.entries[crate.name] = Entry(len(crate.found), crate.digest, logic, kit, git("rev-parse", "HEAD"), sorted(crate.found), dropped)
-            self.record.save(self.order)
+            record.entries[crate.name] = Entry(len(crate.found), crate.digest, logic, kit, git("rev-parse", "HEAD"), sorted(crate.found), dropped)
+            record.save(self.order)
         return None
