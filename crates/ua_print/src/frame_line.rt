@@ -144,6 +144,7 @@ fn put_chunk(chunk: &Chunk, row: &mut [u8; ROOM]) -> usize
 }
 
 /// Appends the line of a MSG, which most frames are.
+#[inline(always)]
 #[tactic(auto, unfolding(crate::specs::FrameLine::frame_line))]
 fn add_message_frame(
     text: &mut String,
@@ -208,6 +209,7 @@ pub fn add_message_text(
 
 /// Appends the line of the frame of so many bytes that begins at the offset. After an error a beginning of it may
 /// stand there.
+#[inline(always)]
 #[tactic(auto, unfolding(crate::specs::FrameLine::frame_line))]
 pub fn add_frame(
     text: &mut String,
@@ -234,6 +236,7 @@ pub fn add_frame(
 const MOST_BYTES: usize = 1 << 60;
 
 /// The encoding id that a message begins with, if any.
+#[inline(always)]
 #[tactic(auto, unfolding(crate::specs::FrameLine::type_in))]
 pub fn type_of(alloc: Global, body: &[u8]) -> Result<Option<NodeId>, NoMemory>
     ensures { IfOk result (λ id. id ≡ type_in body.now) }
@@ -249,6 +252,7 @@ pub fn type_of(alloc: Global, body: &[u8]) -> Result<Option<NodeId>, NoMemory>
 }
 
 /// Appends the line of a whole message under this request id. After an error a beginning of it may stand there.
+#[inline(always)]
 #[tactic(auto, unfolding(crate::specs::FrameLine::message_line))]
 pub fn add_message(
     alloc: Global,
