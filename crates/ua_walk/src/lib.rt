@@ -1,0 +1,12 @@
+//! The frames in the bytes of one direction, and the messages that are whole with them, told one after the other, however the
+//! bytes come (OPC 10000-6, 6.7.2 and 7.1.2).
+#![tactic(auto)]
+
+mod half;
+mod teller;
+mod walk;
+mod walker;
+
+pub use teller::Teller;
+pub use walk::{LONGEST, MOST_MESSAGE};
+pub use walker::{Walker, walk_whole};
