@@ -77,6 +77,10 @@ message_line request body = message_text request (type_in body) (length body) ++
 unfoldable pub bad_line : ℕ → ℕ → List ℕ
 bad_line offset status = decimal offset ++ codes " bad " ++ status_text status ++ codes "\n"
 
+-- with the frame at this offset a message is longer than what is taken of one
+unfoldable pub long_line : ℕ → List ℕ
+long_line offset = decimal offset ++ codes " message-too-long\n"
+
 -- so many bytes are less than a frame
 unfoldable pub rest_line : ℕ → ℕ → List ℕ
 rest_line offset left = decimal offset ++ codes " rest " ++ decimal left ++ codes "\n"

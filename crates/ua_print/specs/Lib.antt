@@ -1,5 +1,4 @@
 pub mod Printed
 pub mod Escape
 pub mod FrameLine
-pub mod Parts
 pub mod Capture

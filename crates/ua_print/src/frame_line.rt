@@ -4,7 +4,7 @@ ghost use Rattle.std.specs.Prelude.{◌≡◌, ◌≤◌, ◌++◌, codes, drop,
 ghost use Rattle.std.specs.Option.{option_map};
 ghost use Rattle.std.specs.Str.{IsUtf8};
 ghost use Rattle.ua_chunk.specs.declared.content.Content.TheVariants.{Message as message, Close as close};
-ghost use Rattle.ua_print.specs.FrameLine.{numbers_text, hello_text, acknowledge_text, error_text, reverse_hello_text, open_text, chunk_text, frame_line, type_in, type_text, message_text, message_line, bad_line, rest_line};
+ghost use Rattle.ua_print.specs.FrameLine.{numbers_text, hello_text, acknowledge_text, error_text, reverse_hello_text, open_text, chunk_text, frame_line, type_in, type_text, message_text, message_line, bad_line, long_line, rest_line};
 
 use crate::row::{ROOM, add_number, add_row, put_number, put_word};
 use crate::text::{Code, Text, add_node};
@@ -273,6 +273,15 @@ pub fn add_bad(text: &mut String, offset: usize, status: u32) -> Result<(), NoMe
     ensures { OnOk result (string_bytes text.new ≡ string_bytes text.old ++ bad_line offset status) }
 {
     writeln!(text, "{offset} bad {}", Code(status))
+}
+
+/// Appends the line of a frame with which a message is longer than what is taken of one. After an error a beginning of it
+/// may stand there.
+#[tactic(auto, unfolding(crate::specs::FrameLine::long_line))]
+pub fn add_long(text: &mut String, offset: usize) -> Result<(), NoMemory>
+    ensures { OnOk result (string_bytes text.new ≡ string_bytes text.old ++ long_line offset) }
+{
+    writeln!(text, "{offset} message-too-long")
 }
 
 /// Appends the line of bytes that are less than a frame. After an error a beginning of it may stand there.

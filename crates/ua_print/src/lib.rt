@@ -8,8 +8,8 @@ mod row;
 mod status;
 mod text;
 
-pub use capture::{LONGEST, lines_of};
-pub use frame_line::{add_bad, add_frame, add_message, add_rest};
-pub use parts::{size_of, type_of_parts};
+pub use capture::lines_of;
+pub use frame_line::{add_bad, add_frame, add_long, add_message, add_rest};
+pub use parts::{add_parts, size_of, type_of_parts};
 pub use status::{NamedCode, status_name};
 pub use text::{Code, Text, add_node};

@@ -2,7 +2,7 @@
 
 ghost use Rattle.std.specs.Prelude.{◌≡◌, ◌≤◌, ℕ, List, ◌++◌, length, IfOk, IfSome, IsTrue, OnOk, None, Some, string_bytes};
 ghost use Rattle.ua_print.specs.FrameLine.{type_in, message_line};
-ghost use Rattle.ua_print.specs.Parts.{joined};
+ghost use Rattle.ua_walk.specs.Parts.{joined};
 
 use crate::frame_line::{add_message_text, type_of};
 use std::alloc::{AllocError, Global};
@@ -76,13 +76,15 @@ pub fn type_of_parts(
     parts: &[&[u8]],
     size: usize,
 ) -> Result<Option<NodeId>, NoMemory>
-    requires { 1 ≤ length parts.now }
     ensures { IfOk result (λ id. id ≡ type_in (joined parts.now)) }
 {
-    if has_no_type(parts[0]) {
+    let [first, ..] = parts else {
+        return type_of(alloc, b"");
+    };
+    if has_no_type(first) {
         return Ok(None);
     }
-    match type_of_first(alloc, parts[0])? {
+    match type_of_first(alloc, first)? {
         Some(id) => Ok(Some(id)),
         None => type_of_joined(alloc, parts, size),
     }
@@ -96,7 +98,6 @@ pub fn add_parts(
     request_id: u32,
     parts: &[&[u8]],
 ) -> Result<(), NoMemory>
-    requires { 1 ≤ length parts.now }
     ensures { OnOk result (string_bytes text.new ≡ string_bytes text.old ++ message_line request_id (joined parts.now)) }
 {
     let size = size_of(parts)?;

@@ -1,5 +1,5 @@
 use Rattle.std.proofs.Common.{◌≡◌, length, take}
-use Rattle.ua_print.specs.Parts.{joined}
+use Rattle.ua_walk.specs.Parts.{joined}
 use Rattle.ua_print.proofs.parts.size_of.Given as goal
 
 abbrev pub invariant-parts : goal.invariant-parts
