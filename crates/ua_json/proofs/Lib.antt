@@ -3,4 +3,3 @@ pub mod Breaks
 pub mod Objects
 pub mod Ended
 pub mod Appending
-pub mod Captures

@@ -1,4 +1,3 @@
 pub mod Nesting
 pub mod Lines
-pub mod Told
 pub mod Value

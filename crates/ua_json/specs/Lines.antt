@@ -25,7 +25,3 @@ pub record AreLines (count : ℕ) (text : List ℕ) : Type 0 where
 -- what stood there stands there, and one line stands behind it
 abbrev pub AppendsLine : List ℕ → List ℕ → Type 0
 AppendsLine old new = (line : List ℕ) × IsLine line × (new ≡ old ++ line)
-
--- the same of so many lines
-abbrev pub AppendsLines : ℕ → List ℕ → List ℕ → Type 0
-AppendsLines count old new = (more : List ℕ) × AreLines count more × (new ≡ old ++ more)

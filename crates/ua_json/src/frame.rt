@@ -1,6 +1,6 @@
 //! Frames and messages of a capture.
 
-ghost use Rattle.std.specs.Prelude.{◌≤◌, length, ◌≡◌, OnOk, OnErr, string_bytes};
+ghost use Rattle.std.specs.Prelude.{◌≡◌, OnOk, OnErr, string_bytes};
 ghost use Rattle.ua_json.specs.Lines.{AppendsLine};
 ghost use Rattle.ua_json.specs.Nesting.{AddsMembers};
 
@@ -174,7 +174,6 @@ pub fn add_message(
     request_id: u32,
     parts: &[&[u8]],
 ) -> Result<(), NoMemory>
-    requires { 1 ≤ length parts.now }
     ensures line { OnOk result (AppendsLine (string_bytes text.old) (string_bytes text.new)) }
     ensures refused { OnErr result (string_bytes text.new ≡ string_bytes text.old) }
 {

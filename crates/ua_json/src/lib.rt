@@ -8,10 +8,10 @@
 
 mod answer;
 mod application;
-mod capture;
 mod diagnostic;
 mod endpoint;
 mod frame;
+mod frame_lines;
 mod line;
 mod moment;
 mod node;
@@ -26,9 +26,9 @@ mod variant;
 
 pub use answer::{add_abort, add_broken, add_error, add_service_fault};
 pub use application::add_application;
-pub use capture::frames_json;
 pub use endpoint::add_endpoint;
 pub use frame::{add_bad, add_frame, add_message, add_rest};
+pub use frame_lines::{FrameLines, frames_json};
 pub use moment::Moment;
 pub use origin::{Origin, Sender};
 pub use stream::{

@@ -49,16 +49,21 @@ pub fn add_stream<T: fmt::Display>(
     line.add_to(text, put)
 }
 
-fn put_note(line: &mut Line, origin: Origin, offset: usize, note: &str) -> Result<(), NoMemory>
+fn put_note(
+    line: &mut Line,
+    origin: Option<Origin>,
+    offset: usize,
+    note: &str,
+) -> Result<(), NoMemory>
     ensures { OnOk result (AddsMembers line.old.json.tokens line.new.json.tokens) }
 {
-    put_origin(line, Some(origin))?;
+    put_origin(line, origin)?;
     line.count("Offset", offset)?;
     line.key("Note")?;
     line.text(note)
 }
 
-/// Adds the line of what a word says of a place in the bytes of one way of a connection.
+/// Adds the line of what a word says of a place in the bytes of one direction; in front where these come from, if that is said.
 ///
 /// # Errors
 ///
@@ -66,7 +71,7 @@ fn put_note(line: &mut Line, origin: Origin, offset: usize, note: &str) -> Resul
 pub fn add_note(
     alloc: Global,
     text: &mut String,
-    origin: Origin,
+    origin: Option<Origin>,
     offset: usize,
     note: &str,
 ) -> Result<(), NoMemory>

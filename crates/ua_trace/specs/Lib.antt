@@ -1,4 +1,3 @@
 pub mod Lines
 pub mod Under
-pub mod Walk
 pub mod Woven
