@@ -1,12 +1,12 @@
 -- What the command `show` reads and prints, and its exit status.
-use Rattle.std.specs.Prelude.{◌≡◌, ◌⊎◌, ◌≤◌, true, false, ℕ, List, Option}
+use Rattle.std.specs.Prelude.{◌≡◌, ◌⊎◌, ◌≤◌, true, false, ℕ, List, length, Option}
 use Rattle.std.specs.Io.KnownBytes.{Appends}
 use Rattle.ua_capture.specs.Beginning.{is_capture}
 use Rattle.ua_command.specs.Answer.{IsInput}
 use Rattle.ua_json.specs.Lines.{AreLines}
-use Rattle.ua_json.specs.Told.{told as told_in_json}
 use Rattle.ua_print.specs.Capture.{shown}
-use Rattle.ua_trace.specs.Woven.{IsWoven}
+use Rattle.ua_trace.specs.Woven.{Woven}
+use Rattle.ua_walk.specs.Walk.{story}
 use Rattle.ua_words.specs.declared.form.Form.{Form}
 use Rattle.ua_words.specs.declared.form.Form.TheVariants.{Lines, Whole, Json}
 use Rattle.ua_words.specs.declared.capture.Capture.{Capture}
@@ -22,11 +22,11 @@ abbrev pub LeavesFor : Capture → Option (List ℕ) → Option (List ℕ) → T
 LeavesFor Input old new = Unit {0}
 LeavesFor (File path) old new = new ≡ old
 
--- the text that these bytes come to in a form: their lines, these with lines of all that servers answered between them, or in JSON so many lines, an object each
+-- the text of these bytes in a form: a line for each thing that is told of them, these lines with those of all that servers answered under messages, or in JSON as many lines, an object each
 abbrev pub IsShownIn : Form → List ℕ → List ℕ → Type 0
 IsShownIn Lines bytes text = text ≡ (shown bytes).text
-IsShownIn Whole bytes text = IsWoven (shown bytes).text text
-IsShownIn Json bytes text = AreLines (told_in_json bytes).lines text
+IsShownIn Whole bytes text = Woven (story bytes) text
+IsShownIn Json bytes text = AreLines (length (story bytes)) text
 
 -- that text stands behind what the writer held, and the status is the same in each form
 pub record ShowsIn (form : Form) (bytes : List ℕ) (old new : Option (List ℕ)) (status : ℕ) : Type 0 where

@@ -1,6 +1,6 @@
 //! The command `show`: prints the frames in the raw bytes of one direction, or in a file of packets.
 
-ghost use Rattle.std.specs.Prelude.{◌≡◌, ◌≤◌, IfOk, IfErr};
+ghost use Rattle.std.specs.Prelude.{◌≡◌, ◌≤◌, IfOk, IfErr, string_bytes};
 ghost use Rattle.ua_command.specs.Show.{IsShownIn, IsTraceStatus, LeavesFor, ShowsIn, ShowsFrom, ShowsCapture};
 ghost use Rattle.ua_command.specs.Stop.{IsFileStop, IsQuiet};
 ghost use Rattle.ua_print.specs.Capture.{shown};
@@ -8,7 +8,7 @@ ghost use Rattle.ua_print.specs.Capture.{shown};
 use crate::begun::{Begun, begin};
 use crate::file::stop_of_open;
 use crate::run::{note, told};
-use crate::stop::{Stop, print, print_bytes};
+use crate::stop::{Stop, print};
 use crate::why::Why;
 use std::alloc::Global;
 use std::fs::File;
@@ -22,19 +22,13 @@ use ua_value::plumbing::let_go;
 use ua_words::{Capture, Form};
 
 /// The text of these bytes in this form, and the exit status.
-fn shown_in(alloc: Global, bytes: &[u8], form: Form) -> Result<(Vec<u8>, u8), NoMemory>
-    ensures text { IfOk result (λ x. IsShownIn form bytes.now x.0.items) }
+fn shown_in(alloc: Global, bytes: &[u8], form: Form) -> Result<(String, u8), NoMemory>
+    ensures text { IfOk result (λ x. IsShownIn form bytes.now (string_bytes x.0)) }
     ensures status { IfOk result (λ x. x.1 ≡ (shown bytes.now).status) }
 {
     match form {
-        Form::Lines => {
-            let (text, status) = lines_of(alloc, bytes)?;
-            Ok((text.into_bytes(), status))
-        }
-        Form::Json => {
-            let (text, status) = frames_json(alloc, bytes)?;
-            Ok((text.into_bytes(), status))
-        }
+        Form::Lines => lines_of(alloc, bytes),
+        Form::Json => frames_json(alloc, bytes),
         Form::Whole => whole_lines_of(alloc, bytes),
     }
 }
@@ -46,7 +40,7 @@ fn show_in<O: Write>(alloc: Global, bytes: &[u8], form: Form, output: &mut O) ->
     ensures quiet { IfErr result (λ stop. IsQuiet stop (O.contents output.old) (O.contents output.new)) }
 {
     let (text, status) = shown_in(alloc, bytes, form)?;
-    print_bytes(output, text.as_slice())?;
+    print(output, text.as_str())?;
     Ok(status)
 }
 

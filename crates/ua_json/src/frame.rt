@@ -10,8 +10,9 @@ use crate::origin::{Origin, put_origin};
 use std::alloc::Global;
 use ua_chunk::{Chunk, Content, OpenChunk};
 use ua_frame::{Ack, ErrorFrame, Hello, ReverseHello};
-use ua_print::{size_of, type_of_parts};
+use ua_print::type_of_parts;
 use ua_value::{NoMemory, NodeId, StatusCode};
+use ua_walk::size_of;
 
 /// The fields of a HEL (OPC 10000-6, 7.1.2.3).
 fn put_hello(line: &mut Line, hello: &Hello) -> Result<(), NoMemory>

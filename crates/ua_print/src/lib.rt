@@ -10,6 +10,6 @@ mod text;
 
 pub use capture::lines_of;
 pub use frame_line::{add_bad, add_frame, add_long, add_message, add_rest};
-pub use parts::{add_parts, size_of, type_of_parts};
+pub use parts::{add_parts, type_of_parts};
 pub use status::{NamedCode, status_name};
 pub use text::{Code, Text, add_node};

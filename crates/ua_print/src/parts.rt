@@ -1,41 +1,13 @@
-//! A message whose parts lie apart: how long it is, and the encoding id that it begins with.
+//! A message whose parts lie apart: the encoding id that it begins with, and its line.
 
 ghost use Rattle.std.specs.Prelude.{◌≡◌, ◌≤◌, ℕ, List, ◌++◌, length, IfOk, IfSome, IsTrue, OnOk, None, Some, string_bytes};
 ghost use Rattle.ua_print.specs.FrameLine.{type_in, message_line};
 ghost use Rattle.ua_walk.specs.Parts.{joined};
 
 use crate::frame_line::{add_message_text, type_of};
-use std::alloc::{AllocError, Global};
+use std::alloc::Global;
 use ua_value::{NoMemory, NodeId};
-
-/// How many bytes the parts have.
-///
-/// # Errors
-///
-/// `NoMemory` where there are more than 64 bits can say, which no machine holds.
-pub fn size_of(parts: &[&[u8]]) -> Result<usize, NoMemory>
-    ensures { IfOk result (λ n. n ≡ length (joined parts.now)) }
-{
-    let mut size: usize = 0;
-    'parts: for part in parts {
-        match size.checked_add(part.len()) {
-            Some(more) => size = more,
-            None => return Err(AllocError),
-        }
-    }
-    Ok(size)
-}
-
-/// The parts as one, which has room for so many bytes from the start.
-fn join(alloc: Global, parts: &[&[u8]], size: usize) -> Result<Vec<u8>, NoMemory>
-    ensures { IfOk result (λ whole. whole.items ≡ joined parts.now) }
-{
-    let mut whole = Vec::with_capacity(alloc, size)?;
-    'parts: for part in parts {
-        whole.extend_from_slice(part)?;
-    }
-    Ok(whole)
-}
+use ua_walk::{join, size_of};
 
 /// The encoding id that the joined parts, of so many bytes, begin with, if any.
 fn type_of_joined(alloc: Global, parts: &[&[u8]], size: usize) -> Result<Option<NodeId>, NoMemory>

@@ -9,3 +9,7 @@ IsLine line = (k : ℕ) → k < length line → (slice_index line k == 10) ≡ f
 pub data AreUnder : List ℕ → Type 0 where
   none : AreUnder []
   more : (lines line : List ℕ) → AreUnder lines → IsLine line → AreUnder (lines ++ (codes "    " ++ line ++ codes "\n"))
+
+-- what stood there stands there, and lines of an answer behind it
+abbrev pub AddsUnder : List ℕ → List ℕ → Type 0
+AddsUnder old new = (answer : List ℕ) × AreUnder answer × (new ≡ old ++ answer)

@@ -1,13 +1,14 @@
 //! All that a server answered, in lines under that of its message.
 
 ghost use Rattle.std.specs.Prelude.{IfOk, OnOk, string_bytes};
-ghost use Rattle.ua_trace.specs.Under.{AreUnder, IsLine};
+ghost use Rattle.ua_trace.specs.Under.{AddsUnder, AreUnder, IsLine};
 
 use std::alloc::{AllocError, Global};
 use ua_lines::{add_application, add_endpoint};
 use ua_service::{Response, read_response};
 use ua_value::plumbing::let_go;
 use ua_value::{NoMemory, ReadFault};
+use ua_walk::{join, size_of};
 
 /// The most bytes that a reader takes, which no machine holds.
 const MOST_BYTES: usize = 1 << 60;
@@ -84,7 +85,7 @@ fn indented(alloc: Global, lines: &str) -> Result<String, NoMemory>
 
 /// The lines of `ask --all` of the answer to FindServers or GetEndpoints of which all of these bytes are the body, each
 /// behind four blanks; none where they are no such body. OPC 10000-4, 5.5.2 and 5.5.4.
-pub(crate) fn lines_under(alloc: Global, body: &[u8]) -> Result<String, NoMemory>
+fn lines_under(alloc: Global, body: &[u8]) -> Result<String, NoMemory>
     ensures { IfOk result (λ text. AreUnder (string_bytes text)) }
 {
     let mut lines = String::new(alloc);
@@ -96,9 +97,27 @@ pub(crate) fn lines_under(alloc: Global, body: &[u8]) -> Result<String, NoMemory
     under
 }
 
-/// Appends these lines.
-pub(crate) fn add_under(alloc: Global, text: &mut String, body: &[u8]) -> Result<(), NoMemory> {
-    match lines_under(alloc, body) {
+/// The same of a body in parts.
+fn lines_under_parts(alloc: Global, parts: &[&[u8]]) -> Result<String, NoMemory>
+    ensures { IfOk result (λ text. AreUnder (string_bytes text)) }
+{
+    match parts {
+        [body] => lines_under(alloc, body),
+        _ => {
+            let size = size_of(parts)?;
+            let body = join(alloc, parts, size)?;
+            let lines = lines_under(alloc, &body);
+            let_go(body);
+            lines
+        }
+    }
+}
+
+/// Appends the lines that stand under that of a message whose body is these parts joined.
+pub(crate) fn add_under(alloc: Global, text: &mut String, parts: &[&[u8]]) -> Result<(), NoMemory>
+    ensures { OnOk result (AddsUnder (string_bytes text.old) (string_bytes text.new)) }
+{
+    match lines_under_parts(alloc, parts) {
         Ok(lines) => text.push_str(lines.as_str()),
         Err(e) => Err(e),
     }

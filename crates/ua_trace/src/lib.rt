@@ -8,7 +8,6 @@ mod lane;
 mod place;
 mod talk;
 mod trace;
-mod walk;
 mod whole;
 
 pub use choice::Choice;

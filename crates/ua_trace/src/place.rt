@@ -3,12 +3,15 @@
 use crate::answer::add_under;
 use std::alloc::Global;
 use std::fmt;
+use std::mem::replace;
 use std::net::{IpAddr, SocketAddr};
 use ua_capture::{Address, Endpoint};
 use ua_chunk::Content;
-use ua_json::{Moment, Origin, Sender};
+use ua_json::{FrameLines, Moment, Origin, Sender};
+use ua_print::{add_bad, add_frame, add_long, add_parts, add_rest};
 use ua_stream::{Connection, Way};
 use ua_value::NoMemory;
+use ua_walk::{Teller, Walker};
 
 /// How lines are written.
 #[derive(Clone, Copy)]
@@ -39,8 +42,6 @@ pub(crate) enum Note {
     Gap,
     /// Segments brought different bytes there or behind it.
     Differs,
-    /// The message that this frame is a part of is longer than what is kept of one.
-    TooLong,
 }
 
 impl Note {
@@ -48,7 +49,6 @@ impl Note {
         match self {
             Note::Gap => "gap",
             Note::Differs => "differs",
-            Note::TooLong => "message-too-long",
         }
     }
 }
@@ -130,69 +130,63 @@ impl Place {
         }
     }
 
-    /// Adds the line of a frame of so many bytes.
-    pub(crate) fn add_frame(
+    /// Takes the next bytes of its way, and adds the lines of what they complete.
+    pub(crate) fn feed(
         self,
         alloc: Global,
+        walker: &mut Walker,
+        bytes: &[u8],
         text: &mut String,
-        offset: usize,
-        size: usize,
-        content: &Content,
     ) -> Result<(), NoMemory> {
+        let lines = replace(text, String::new(alloc));
         if self.form.json {
-            return ua_json::add_frame(alloc, text, Some(self.origin()), offset, size, content);
+            let mut teller = self.objects(alloc, lines);
+            let fed = walker.feed(bytes, &mut teller);
+            *text = teller.text;
+            fed
+        } else {
+            let mut teller = self.lines(alloc, lines);
+            let fed = walker.feed(bytes, &mut teller);
+            *text = teller.text;
+            fed
         }
-        self.add_front(text)?;
-        ua_print::add_frame(text, offset, size, content)
     }
 
-    /// Adds the line of a whole message, and under it those of the answer that it is, where they are asked for.
-    pub(crate) fn add_message(
+    /// Adds the lines of what is left at the end of its way, and says whether all of it was whole.
+    pub(crate) fn end(
         self,
         alloc: Global,
+        walker: &mut Walker,
         text: &mut String,
-        request_id: u32,
-        body: &[u8],
-    ) -> Result<(), NoMemory> {
+    ) -> Result<bool, NoMemory> {
+        let lines = replace(text, String::new(alloc));
         if self.form.json {
-            return ua_json::add_message(alloc, text, Some(self.origin()), request_id, &[body]);
+            let mut teller = self.objects(alloc, lines);
+            let ended = walker.end(&mut teller);
+            *text = teller.text;
+            ended
+        } else {
+            let mut teller = self.lines(alloc, lines);
+            let ended = walker.end(&mut teller);
+            *text = teller.text;
+            ended
         }
-        self.add_front(text)?;
-        ua_print::add_message(alloc, text, request_id, body)?;
-        if self.form.all {
-            add_under(alloc, text, body)?;
-        }
-        Ok(())
     }
 
-    /// Adds the line of a frame, or of what should be one, that is refused with this status.
-    pub(crate) fn add_bad(
-        self,
-        alloc: Global,
-        text: &mut String,
-        offset: usize,
-        status: u32,
-    ) -> Result<(), NoMemory> {
-        if self.form.json {
-            return ua_json::add_bad(alloc, text, Some(self.origin()), offset, status);
+    fn objects(self, alloc: Global, text: String) -> FrameLines {
+        FrameLines {
+            alloc,
+            origin: Some(self.origin()),
+            text,
         }
-        self.add_front(text)?;
-        ua_print::add_bad(text, offset, status)
     }
 
-    /// Adds the line of bytes that are less than a frame.
-    pub(crate) fn add_rest(
-        self,
-        alloc: Global,
-        text: &mut String,
-        offset: usize,
-        left: usize,
-    ) -> Result<(), NoMemory> {
-        if self.form.json {
-            return ua_json::add_rest(alloc, text, Some(self.origin()), offset, left);
+    fn lines(self, alloc: Global, text: String) -> PlacedLines {
+        PlacedLines {
+            alloc,
+            place: self,
+            text,
         }
-        self.add_front(text)?;
-        ua_print::add_rest(text, offset, left)
     }
 
     /// Adds the line of a note on a place.
@@ -205,9 +199,55 @@ impl Place {
     ) -> Result<(), NoMemory> {
         let word = note.word();
         if self.form.json {
-            return ua_json::add_note(alloc, text, self.origin(), offset, word);
+            return ua_json::add_note(alloc, text, Some(self.origin()), offset, word);
         }
         self.add_front(text)?;
         writeln!(text, "{offset} {word}")
+    }
+}
+
+/// The lines of all that is told of a place, where they are no objects of JSON.
+#[derive(Drop)]
+struct PlacedLines {
+    alloc: Global,
+    place: Place,
+    text: String,
+}
+
+impl Teller for PlacedLines {
+    ghost heard = { λ _ _. Unit {0} };
+
+    fn tell_frame(
+        &mut self,
+        offset: usize,
+        size: usize,
+        content: &Content,
+    ) -> Result<(), NoMemory> {
+        self.place.add_front(&mut self.text)?;
+        add_frame(&mut self.text, offset, size, content)
+    }
+
+    fn tell_message(&mut self, request_id: u32, parts: &[&[u8]]) -> Result<(), NoMemory> {
+        self.place.add_front(&mut self.text)?;
+        add_parts(self.alloc, &mut self.text, request_id, parts)?;
+        if self.place.form.all {
+            add_under(self.alloc, &mut self.text, parts)?;
+        }
+        Ok(())
+    }
+
+    fn tell_long(&mut self, offset: usize) -> Result<(), NoMemory> {
+        self.place.add_front(&mut self.text)?;
+        add_long(&mut self.text, offset)
+    }
+
+    fn tell_bad(&mut self, offset: usize, status: u32) -> Result<(), NoMemory> {
+        self.place.add_front(&mut self.text)?;
+        add_bad(&mut self.text, offset, status)
+    }
+
+    fn tell_rest(&mut self, offset: usize, left: usize) -> Result<(), NoMemory> {
+        self.place.add_front(&mut self.text)?;
+        add_rest(&mut self.text, offset, left)
     }
 }

@@ -88,7 +88,7 @@ impl Talk {
             return Ok(());
         }
         let side = connection.side(place.way);
-        self.bring(place, side)?;
+        self.bring(place, side);
         if self.shown == Shown::Unknown {
             self.came = self.came.saturating_add(side.ready().len());
             self.decide(alloc, place, connection, text)?;
@@ -102,8 +102,8 @@ impl Talk {
         }
     }
 
-    /// Takes in the bytes that a packet of a way made ready.
-    fn bring(&mut self, place: Place, side: &Side) -> Result<(), NoMemory> {
+    /// Notes the moment of a packet of a way, and what the way begins with.
+    fn bring(&mut self, place: Place, side: &Side) {
         match place.way {
             Way::Forth => self.forth.bring(place.moment, side),
             Way::Back => self.back.bring(place.moment, side),

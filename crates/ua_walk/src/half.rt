@@ -4,6 +4,7 @@ ghost use Rattle.std.specs.Prelude.{◌≡◌, ◌++◌, ◌∷◌, [], length, 
 ghost use Rattle.ua_walk.specs.Parts.{joined};
 ghost use Rattle.ua_walk.specs.Told.{message_told, Hears};
 
+use crate::parts::append;
 use crate::teller::Teller;
 use std::alloc::{AllocError, Global};
 use std::marker::Model;
@@ -27,16 +28,6 @@ impl<'a> Model for Half<'a> {
     ghost view = { λ h. h.kept.items ++ joined h.parts.items };
 
     ghost invariant = { λ h. (1 ≤ length h.kept.items → h.parts.items ≡ []) × (h.len ≡ length (h.kept.items ++ joined h.parts.items)) };
-}
-
-/// Appends the parts, one behind the other.
-fn append(kept: &mut Vec<u8>, parts: &[&[u8]]) -> Result<(), NoMemory>
-    ensures { OnOk result (kept.new.items ≡ kept.old.items ++ joined parts.now) }
-{
-    'parts: for part in parts {
-        kept.extend_from_slice(part)?;
-    }
-    Ok(())
 }
 
 impl<'a> Half<'a> {

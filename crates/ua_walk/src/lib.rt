@@ -3,10 +3,12 @@
 #![tactic(auto)]
 
 mod half;
+mod parts;
 mod teller;
 mod walk;
 mod walker;
 
+pub use parts::{join, size_of};
 pub use teller::Teller;
 pub use walk::{LONGEST, MOST_MESSAGE};
 pub use walker::{Walker, walk_whole};
