@@ -21,5 +21,5 @@ abbrev pub lines : List Told → List ℕ
 lines told = flat_map line_of told
 
 -- what is shown of a whole capture
-unfoldable pub shown : List ℕ → Shown
+abbrev pub shown : List ℕ → Shown
 shown bytes = record { text = lines (story bytes); status = if is_whole (story bytes) then 0 else 1 }

@@ -65,7 +65,6 @@ fn status_of(is_whole: bool) -> u8
 
 /// The lines of the frames that the bytes are, each with its offset from 0, and the exit status: 0 where the last frame
 /// ends with the bytes, and 1 where a frame is refused or cut, or a message too long, which the last line says.
-#[tactic(auto, unfolding(crate::specs::Capture::shown))]
 pub fn lines_of(alloc: Global, bytes: &[u8]) -> Result<(String, u8), NoMemory>
     ensures text { IfOk result (λ x. string_bytes x.0 ≡ (shown bytes.now).text) }
     ensures status { IfOk result (λ x. x.1 ≡ (shown bytes.now).status) }

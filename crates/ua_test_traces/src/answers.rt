@@ -134,7 +134,7 @@ fn is_traced(
 /// Whether these bytes are shown so as raw bytes, with this status.
 fn is_whole(alloc: Global, bytes: &[u8], wanted: &str, status: u8) -> bool {
     match whole_lines_of(alloc, bytes) {
-        Ok((text, came)) => came == status && text.as_slice() == wanted.as_bytes(),
+        Ok((text, came)) => came == status && text.as_bytes() == wanted.as_bytes(),
         Err(_) => false,
     }
 }
@@ -224,7 +224,7 @@ fn whole_or_no_memory(alloc: Global) -> bool {
         return true;
     };
     match whole_lines_of(alloc, frames.as_slice()) {
-        Ok((text, status)) => status == 0 && text.as_slice() == PARTS_LINES.as_bytes(),
+        Ok((text, status)) => status == 0 && text.as_bytes() == PARTS_LINES.as_bytes(),
         Err(_) => true,
     }
 }

@@ -22,4 +22,6 @@ mod mutations;
 #[cfg(test)]
 mod showing;
 #[cfg(test)]
+mod walks;
+#[cfg(test)]
 mod ways;
