@@ -32,6 +32,7 @@ impl Teller for Lines {
         add_frame(&mut self.text, offset, size, content)
     }
 
+    #[inline(always)]
     #[tactic(auto, using(crate::proofs::Captures::one_more, crate::proofs::Captures::one_part))]
     fn tell_message(&mut self, request_id: u32, parts: &[&[u8]]) -> Result<(), NoMemory> {
         match parts {
