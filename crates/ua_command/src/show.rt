@@ -184,8 +184,8 @@ fn show_from<I: Read, O: Write, E: Write>(
 }
 
 /// Prints a line for each frame of a capture and each message that is whole with it, or an object of JSON in the place of
-/// each line, and gives the exit status: 0 where the last frame ends with the bytes, 1 where a frame is refused or cut,
-/// which the last line says. In the form of all that is known, the lines of each answer to FindServers or GetEndpoints
+/// each line, and gives the exit status: 0 where the last frame ends with the bytes, 1 where a frame is refused or cut
+/// or a message too long, which the last line says. In the form of all that is known, the lines of each answer to FindServers or GetEndpoints
 /// stand under that of its message, each behind four blanks.
 ///
 /// A capture of raw bytes is read to its end before anything is printed; `File` says that it can't be. One of packets,

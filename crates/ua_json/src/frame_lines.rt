@@ -11,7 +11,7 @@ use crate::stream::add_note;
 use std::alloc::Global;
 use ua_chunk::Content;
 use ua_value::NoMemory;
-use ua_walk::{Teller, walk_whole};
+use ua_walk::{Teller, status_of, walk_whole};
 
 /// Lines of JSON: one for all that is told, in front of whose fields stands where it comes from, if that is said.
 #[derive(Drop)]
@@ -69,13 +69,6 @@ impl Teller for FrameLines {
     fn tell_rest(&mut self, offset: usize, left: usize) -> Result<(), NoMemory> {
         add_rest(self.alloc, &mut self.text, self.origin, offset, left)
     }
-}
-
-/// The exit status, by whether all was whole.
-fn status_of(is_whole: bool) -> u8
-    ensures { result ≡ if is_whole then 0 else 1 }
-{
-    if is_whole { 0 } else { 1 }
 }
 
 /// The lines of the frames that the bytes are, each with its offset from 0, and of the messages that are whole with them;

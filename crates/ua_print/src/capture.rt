@@ -10,7 +10,7 @@ use crate::parts::add_parts;
 use std::alloc::Global;
 use ua_chunk::Content;
 use ua_value::NoMemory;
-use ua_walk::{Teller, walk_whole};
+use ua_walk::{Teller, status_of, walk_whole};
 
 /// The lines of all that was told.
 #[derive(Drop)]
@@ -55,13 +55,6 @@ impl Teller for Lines {
     fn tell_rest(&mut self, offset: usize, left: usize) -> Result<(), NoMemory> {
         add_rest(&mut self.text, offset, left)
     }
-}
-
-/// The exit status, by whether all was whole.
-fn status_of(is_whole: bool) -> u8
-    ensures { result ≡ if is_whole then 0 else 1 }
-{
-    if is_whole { 0 } else { 1 }
 }
 
 /// The lines of the frames that the bytes are, each with its offset from 0, and the exit status: 0 where the last frame

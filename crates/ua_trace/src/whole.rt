@@ -10,7 +10,7 @@ use std::alloc::Global;
 use ua_chunk::Content;
 use ua_print::{add_bad, add_frame, add_long, add_parts, add_rest};
 use ua_value::NoMemory;
-use ua_walk::{Teller, walk_whole};
+use ua_walk::{Teller, status_of, walk_whole};
 
 /// The usual lines of all that was told, and under those of messages that are answers to FindServers or GetEndpoints those
 /// that `ask --all` prints of them.
@@ -52,13 +52,6 @@ impl Teller for WholeLines {
     fn tell_rest(&mut self, offset: usize, left: usize) -> Result<(), NoMemory> {
         add_rest(&mut self.text, offset, left)
     }
-}
-
-/// The exit status, by whether all was whole.
-fn status_of(is_whole: bool) -> u8
-    ensures { result ≡ if is_whole then 0 else 1 }
-{
-    if is_whole { 0 } else { 1 }
 }
 
 /// The lines of `ua_print::lines_of`, and under the line of each whole message that is an answer to FindServers or

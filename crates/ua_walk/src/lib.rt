@@ -11,4 +11,4 @@ mod walker;
 pub use parts::{join, size_of};
 pub use teller::Teller;
 pub use walk::{LONGEST, MOST_MESSAGE};
-pub use walker::{Walker, walk_whole};
+pub use walker::{Walker, status_of, walk_whole};

@@ -172,11 +172,14 @@ pub(crate) fn walk<T: Teller>(
 {
     let alloc = *kept.allocator();
     let mut half = Half::of(alloc, replace(kept, Vec::new(alloc)));
-    let walked = tell_all(alloc, &mut half, offset, bytes, teller);
+    let walked = tell_all(alloc, &mut half, offset, bytes, teller)?;
+    if walked.has_ended {
+        return Ok(walked);
+    }
     match half.into_bytes() {
         Ok(bytes) => {
             *kept = bytes;
-            walked
+            Ok(walked)
         }
         Err(e) => Err(e),
     }

@@ -1,6 +1,6 @@
 //! The bytes of one direction as they come, and what is told of them.
 
-ghost use Rattle.std.specs.Prelude.{◌≡◌, ◌+◌, ◌≤◌, ◌<◌, ◌^◌, ◌++◌, ◌&&◌, [], drop, false, true, length, not, vec_len, IfOk, OnErr, OnOk};
+ghost use Rattle.std.specs.Prelude.{◌≡◌, ◌+◌, ◌≤◌, ◌<◌, ◌^◌, ◌++◌, ◌&&◌, [], drop, false, true, length, not, vec_len, IfOk, OnErr, OnOk, if◌then◌else◌};
 ghost use Rattle.ua_walk.specs.Told.{is_whole, Hears};
 ghost use Rattle.ua_walk.specs.Walk.{opened, story, story_on, IsLess, Walks, WalksOn};
 
@@ -70,7 +70,9 @@ fn feed_alone<T: Teller>(
     ensures { IfOk result (WalksOn T.heard offset bytes.now rest.new.items half.old.items half.new.items teller.old teller.new) }
 {
     let walked = walk(half, offset, bytes, teller)?;
-    rest.extend_from_slice(&bytes[walked.used..])?;
+    if !walked.has_ended {
+        rest.extend_from_slice(&bytes[walked.used..])?;
+    }
     Ok(walked)
 }
 
@@ -212,6 +214,13 @@ impl Walker {
         teller.tell_rest(offset, left)?;
         Ok(false)
     }
+}
+
+/// The exit status of a command that shows what is told, by whether all was whole.
+pub fn status_of(is_whole: bool) -> u8
+    ensures { result ≡ if is_whole then 0 else 1 }
+{
+    if is_whole { 0 } else { 1 }
 }
 
 /// Tells all that these bytes are, by a walker of which nothing came.
