@@ -4,7 +4,6 @@ use Rattle.std.specs.List.{flat_map}
 use Rattle.std.specs.Fmt.{decimal, digits}
 use Rattle.uuid.specs.Text.{hyphenated_text, lower}
 use Rattle.ua_value.specs.Guid.{digits_of}
-use Rattle.ua_value.specs.declared.guid.Guid.{Guid}
 use Rattle.ua_value.specs.declared.node.NodeId.{NodeId}
 use Rattle.ua_value.specs.declared.node.Identifier.{Identifier}
 use Rattle.ua_value.specs.declared.node.Identifier.TheVariants as identifiers

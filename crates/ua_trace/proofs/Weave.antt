@@ -5,7 +5,7 @@ use Rattle.std.proofs.lemmas.List.{append-nil, append_assoc, get_or-take, length
 use Rattle.std.proofs.lemmas.List.Sums.{fails_before_first}
 use Rattle.ua_walk.specs.Told.{Told, frame_told, message_told, long_told, bad_told, rest_told}
 use Rattle.ua_print.specs.Capture.{line_of}
-use Rattle.ua_trace.specs.Under.{AreUnder, IsLine, more}
+use Rattle.ua_trace.specs.Under.{AddsUnder, AreUnder, IsLine, more}
 use Rattle.ua_trace.specs.Woven.{Woven, StandsUnder, line}
 
 -- ---- lines of an answer
@@ -38,3 +38,8 @@ frame_put told text new t alone woven e = subst (Woven (told ++ (t ∷ []))) (ap
 pub message_put : (told : List Told) (text mid new answer : List ℕ) (id : ℕ) (body : List ℕ) → Woven told text → mid ≡ text ++ line_of (message_told id body) → AreUnder answer → new ≡ mid ++ answer → Woven (told ++ (message_told id body ∷ [])) new
 message_put told text mid new answer id body woven first are e =
     subst (Woven (told ++ (message_told id body ∷ []))) (sym (append_assoc text (line_of (message_told id body)) answer) ∙ ap (λ l. l ++ answer) (sym first) ∙ sym e) (line told text (message_told id body) answer woven are)
+
+pub message_told_put : {E : Type 0} (r : Result (Unit {0}) E) (old mid new : List ℕ) (id : ℕ) (body : List ℕ) → mid ≡ old ++ line_of (message_told id body) → OnOk r (AddsUnder mid new)
+    → OnOk r ((told : List Told) → Woven told old → Woven (told ++ (message_told id body ∷ [])) new)
+message_told_put (Ok u) old mid new id body first h = λ told woven. message_put told old mid new h.0 id body woven first h.1 h.2
+message_told_put (Err e) old mid new id body first h = tt
