@@ -148,7 +148,9 @@ fn bytes_one_by_one_tell_the_same(rt: HostRuntime) {
 fn tells_whole(alloc: Global) -> bool {
     let mut words = Words::new(alloc, 100);
     let walked = walk_whole(alloc, &FRAMES[..WHOLE], &mut words);
-    walked == Ok(true) && TOLD.starts_with(words.text.as_str()) && words.text.len() + 11 == TOLD.len()
+    walked == Ok(true)
+        && TOLD.starts_with(words.text.as_str())
+        && words.text.len() + 11 == TOLD.len()
 }
 
 #[test]
@@ -176,7 +178,14 @@ fn a_refusal_ends_it(rt: HostRuntime) {
 
 #[test]
 fn bad_frame_ends_it(rt: HostRuntime) {
-    assert!(rt; tells(rt.alloc(), &[b"GET / HTTP/1.1\r\n", FRAMES], "bad 0 807e0000\n", false));
+    assert!(rt;
+        tells(
+            rt.alloc(),
+            &[b"GET / HTTP/1.1\r\n", FRAMES],
+            "bad 0 807e0000\n",
+            false
+        )
+    );
 }
 
 /// So many frames, each a part of one message with the longest body that a frame has.
@@ -205,8 +214,14 @@ fn is_too_long(alloc: Global) -> Result<bool, AllocError> {
     let bytes = bytes.as_slice();
     Ok(
         is_last(lines_of(alloc, bytes), "\n16777216 message-too-long\n")
-            && is_last(whole_lines_of(alloc, bytes), "\n16777216 message-too-long\n")
-            && is_last(frames_json(alloc, bytes), "\n{\"Offset\":16777216,\"Note\":\"message-too-long\"}\n"),
+            && is_last(
+                whole_lines_of(alloc, bytes),
+                "\n16777216 message-too-long\n",
+            )
+            && is_last(
+                frames_json(alloc, bytes),
+                "\n{\"Offset\":16777216,\"Note\":\"message-too-long\"}\n",
+            ),
     )
 }
 
