@@ -5,7 +5,7 @@ ghost use Rattle.ua_print.specs.Capture.{lines, shown};
 ghost use Rattle.ua_walk.specs.Parts.{joined};
 ghost use Rattle.ua_walk.specs.Told.{frame_told, message_told, long_told, bad_told, rest_told, Hears};
 
-use crate::frame_line::{add_bad, add_frame, add_long, add_message, add_rest};
+use crate::frame_line::{add_bad, add_frame, add_long, add_rest};
 use crate::parts::add_parts;
 use std::alloc::Global;
 use ua_chunk::Content;
@@ -33,12 +33,9 @@ impl Teller for Lines {
     }
 
     #[inline(always)]
-    #[tactic(auto, using(crate::proofs::Captures::one_more, crate::proofs::Captures::one_part))]
+    #[tactic(auto, using(crate::proofs::Captures::one_more))]
     fn tell_message(&mut self, request_id: u32, parts: &[&[u8]]) -> Result<(), NoMemory> {
-        match parts {
-            [body] => add_message(self.alloc, &mut self.text, request_id, body),
-            _ => add_parts(self.alloc, &mut self.text, request_id, parts),
-        }
+        add_parts(self.alloc, &mut self.text, request_id, parts)
     }
 
     #[tactic(auto, using(crate::proofs::Captures::one_more))]

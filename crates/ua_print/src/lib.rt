@@ -9,7 +9,7 @@ mod status;
 mod text;
 
 pub use capture::lines_of;
-pub use frame_line::{add_bad, add_frame, add_long, add_message, add_rest};
+pub use frame_line::{add_bad, add_frame, add_long, add_rest};
 pub use parts::{add_parts, type_of_parts};
 pub use status::{NamedCode, status_name};
 pub use text::{Code, Text, add_node};

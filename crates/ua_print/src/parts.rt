@@ -4,7 +4,7 @@ ghost use Rattle.std.specs.Prelude.{◌≡◌, ◌≤◌, ℕ, List, ◌++◌, l
 ghost use Rattle.ua_print.specs.FrameLine.{type_in, message_line};
 ghost use Rattle.ua_walk.specs.Parts.{joined};
 
-use crate::frame_line::{add_message_text, type_of};
+use crate::frame_line::{add_message, add_message_text, type_of};
 use std::alloc::Global;
 use ua_value::{NoMemory, NodeId};
 use ua_walk::{join, size_of};
@@ -63,8 +63,25 @@ pub fn type_of_parts(
 }
 
 /// Appends the line of a whole message in parts under this request id. After an error a beginning of it may stand there.
-#[tactic(auto, unfolding(crate::specs::FrameLine::message_line))]
+#[inline(always)]
+#[tactic(auto, using(crate::proofs::Captures::one_part))]
 pub fn add_parts(
+    alloc: Global,
+    text: &mut String,
+    request_id: u32,
+    parts: &[&[u8]],
+) -> Result<(), NoMemory>
+    ensures { OnOk result (string_bytes text.new ≡ string_bytes text.old ++ message_line request_id (joined parts.now)) }
+{
+    match parts {
+        [body] => add_message(alloc, text, request_id, body),
+        _ => add_many(alloc, text, request_id, parts),
+    }
+}
+
+/// The same of any number of parts.
+#[tactic(auto, unfolding(crate::specs::FrameLine::message_line))]
+fn add_many(
     alloc: Global,
     text: &mut String,
     request_id: u32,
